@@ -11,7 +11,7 @@
 //! - What goes over an edge and what a subscriber got: [`Signal`], [`Ending`], [`Cause`], [`Deliveries`], [`StreamValue`].
 //! - Names: of hubs ([`HubId`], [`HubKind`]), subscriptions ([`SubId`]), trees, nodes and moves ([`Tree`], [`NodeId`], [`Move`]).
 //! - What nodes recorded: [`Note`] and [`Choices`].
-//! - Why nothing comes: [`Wait`], [`FeedWait`] and [`HubWait`]; what the nodes of a tree do: [`Picture`], [`NodeLook`], [`EdgeLook`] and [`Offer`].
+//! - Why nothing comes: [`Wait`], [`FeedWait`] and [`HubWait`]; what the nodes of a tree do: [`Picture`], [`NodeLook`], [`EdgeLook`], [`Offer`] and [`Recorded`].
 //! - Refusals: [`Refusal`], and [`NotEmitted`], which hands an item back.
 //! - Laws, each as the contract of a function that does nothing: [`headline`], [`idle_means_delivered`] and [`read_all`].
 //!
@@ -24,7 +24,7 @@ pub use rsx_flow::{
 };
 pub use rsx_graph::{
     Answer, Deliveries, EdgeLook, FeedWait, Graph, HubWait, MOST_AT_ONCE, MOST_HUBS,
-    MOST_SUBSCRIPTIONS, NodeLook, NotEmitted, Offer, Picture, Pumped, Refusal, Step,
+    MOST_SUBSCRIPTIONS, NodeLook, NotEmitted, Offer, Picture, Pumped, Recorded, Refusal, Step,
     SubscriptionState, Wait, headline, idle_means_delivered, read_all, replay,
 };
 pub use rsx_model::{

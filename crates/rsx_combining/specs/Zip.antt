@@ -1,5 +1,5 @@
 -- The zip as a node: a queue for each input, the out slot, and the input whose ending was taken.
-use Rattle.std.specs.Prelude.{◌≡◌, ℕ, ◌≤◌, ◌^◌, ◌&&◌, Bool, true, false, nat_lt, List, [], ◌∷◌, length, slice_get, Option, Some, None, option_map}
+use Rattle.std.specs.Prelude.{◌≡◌, ℕ, ◌≤◌, ◌^◌, ◌&&◌, Bool, true, false, if◌then◌else◌, nat_eq, nat_lt, List, [], ◌∷◌, length, slice_get, Option, Some, None, option_map}
 use Rattle.std.specs.Option.{is_some}
 use Rattle.rsx_sources.specs.Prelude.{Note, Nothing, Picks, Ended, Done, Signal, Next, Meaning, Allocates, Stream, ended_by, Incoming, front_of}
 use Rattle.rsx_sources.specs.declared.machine.Front.{Front}
@@ -94,9 +94,14 @@ pub record IsZipCounted {T : Type 0} (n : ZipState T) (taken : List ℕ) (sent :
 abbrev pub zip_wanted : {T : Type 0} → ZipState T → ℕ → ℕ → ℕ → ℕ
 zip_wanted n i asked sent = credits_at (slice_get n.inputs i)
 
--- how many signals of an input wait
+-- whether the ending of this input was taken
+abbrev pub is_chosen : Option ℕ → ℕ → Bool
+is_chosen None i = false
+is_chosen (Some c) i = nat_eq c i
+
+-- how many signals of an input wait: nothing where its ending was taken, since all before that was
 abbrev pub zip_queued : {T : Type 0} → ZipState T → ℕ → Option ℕ
-zip_queued n i = waiting_at (slice_get n.inputs i)
+zip_queued n i = if is_chosen n.chosen i then option_map (λ k. 0) (waiting_at (slice_get n.inputs i)) else waiting_at (slice_get n.inputs i)
 
 abbrev pub zip_popped : {T : Type 0} → ZipState T → Signal T → ZipState T → Type 0
 zip_popped old s new = IsOut old.output s new.output × (new.inputs ≡ old.inputs) × (new.chosen ≡ old.chosen)

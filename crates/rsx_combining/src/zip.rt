@@ -70,7 +70,7 @@ impl<T: Drop> ZipNode<T> {
     ghost use Rattle.rsx_queued.specs.Input.{fresh_input};
     ghost use Rattle.std.proofs.Math.ListN.{replicate};
     ghost use Rattle.rsx_combining.specs.Inputs.{ending_at};
-    ghost use Rattle.rsx_combining.specs.Zip.{GivesZip, IsZipCounted, may_end, zip_queued};
+    ghost use Rattle.rsx_combining.specs.Zip.{GivesZip, IsZipCounted, is_chosen, may_end, zip_queued};
 
     /// The zip of so many inputs, each with a queue for so many items, 1 to [`LARGEST`].
     ///
@@ -99,11 +99,25 @@ impl<T: Drop> ZipNode<T> {
         })
     }
 
-    /// How many signals of this input wait, its ending too. None where there is no such input.
+    /// Whether the ending of this input was taken.
+    fn is_chosen(&self, input: u64) -> bool
+        ensures { result ≡ is_chosen self.now.chosen input }
+    {
+        match self.chosen {
+            Some(chosen) => chosen as u64 == input,
+            None => false,
+        }
+    }
+
+    /// How many signals of this input wait, its ending too until it was taken. None where there is no such input.
     pub fn queued_at(&self, input: u64) -> Option<u64>
         ensures { result ≡ zip_queued self.now input }
     {
-        waiting_at(self.inputs.as_slice(), input)
+        match waiting_at(self.inputs.as_slice(), input) {
+            Some(waiting) if !self.is_chosen(input) => Some(waiting),
+            Some(_) => Some(0),
+            None => None,
+        }
     }
 
     /// Whether nothing waits in the out slot, and no ending was taken.

@@ -38,6 +38,7 @@ impl<T: Drop> FlatMapDelayNode<T> {
     ghost use Rattle.rsx_queued.specs.Output.{is_empty};
     ghost use Rattle.rsx_queued.specs.declared.output.Output.TheVariants.{Empty};
     ghost use Rattle.rsx_delayed.specs.FlatMapDelay.{GivesFlatMapDelay, flat_delay_counted};
+    ghost use Rattle.rsx_merging.specs.Lanes.{waiting_after};
     ghost use Rattle.rsx_delayed.specs.MergeDelay.{ending_out};
 
     /// The node at which nothing came in: of items that this function of the caller expands, through a chain of these operators, with
@@ -75,6 +76,13 @@ impl<T: Drop> FlatMapDelayNode<T> {
         ensures { result.now ≡ self.now.flat.choices }
     {
         self.flat.records()
+    }
+
+    /// How many items wait in its lanes to be picked; at most 2^63-1.
+    pub fn waiting(&self) -> u64
+        ensures { result ≡ waiting_after 0 self.now.flat.lanes }
+    {
+        self.flat.waiting()
     }
 
     /// The ending of a lane, or of Main, was picked: where it was the last, the ending of the node is put out. Nothing waits.

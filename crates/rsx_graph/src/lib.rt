@@ -37,5 +37,5 @@ pub use rsx_graph_moves::idle_means_delivered;
 pub use rsx_graph_state::{Answer, Pumped, Refusal, headline, refusal};
 pub use rsx_pipe::MOST_AT_ONCE;
 pub use rsx_subscriber::{Deliveries, Subscription, SubscriptionState};
-pub use rsx_waits::{EdgeLook, FeedWait, HubWait, NodeLook, Offer, Picture, Wait};
+pub use rsx_waits::{EdgeLook, FeedWait, HubWait, NodeLook, Offer, Picture, Recorded, Wait};
 pub use step::Step;

@@ -1,8 +1,9 @@
 -- What the nodes of a tree do.
-use Rattle.std.specs.Prelude.{◌≡◌, ℕ, ◌+◌, ◌-◌, List, [], ◌∷◌, ◌++◌, length, Option, Some, None, slice_get}
+use Rattle.std.specs.Prelude.{◌≡◌, ◌==◌, if◌then◌else◌, option_map, ℕ, ◌+◌, ◌-◌, List, [], ◌∷◌, ◌++◌, length, Option, Some, None, slice_get}
 use Rattle.rsx_types.specs.declared.names.SubId.{SubId}
 use Rattle.rsx_types.specs.declared.note.Note.{Note}
 use Rattle.rsx_types.specs.declared.note.Note.TheVariants as note
+use Rattle.rsx_values.specs.declared.limits.TheConstants.{MAIN}
 use Rattle.rsx_rooted.specs.declared.nodes.Nodes.{Ghosts as Nodes}
 use Rattle.rsx_sources.specs.declared.machine.Front.{Front}
 use Rattle.rsx_sources.specs.declared.machine.Front.TheVariants as front
@@ -17,6 +18,8 @@ use Rattle.rsx_graph_state.specs.Prelude.{Subscription}
 use Rattle.rsx_waits.specs.declared.look.EdgeLook.{EdgeLook}
 use Rattle.rsx_waits.specs.declared.look.EdgeLook.TheVariants as shown
 use Rattle.rsx_waits.specs.declared.look.NodeLook.{NodeLook}
+use Rattle.rsx_waits.specs.declared.look.Recorded.{Recorded}
+use Rattle.rsx_waits.specs.declared.look.Recorded.TheVariants as last
 use Rattle.rsx_waits.specs.declared.look.Offer.{Offer}
 use Rattle.rsx_waits.specs.declared.look.Offer.TheVariants as offer
 
@@ -33,15 +36,19 @@ offer_of (Some front.Item) = offer.Item
 offer_of (Some front.Completion) = offer.Completion
 offer_of (Some (front.Failure c)) = offer.Failure
 
--- what stands last in a record: a choice, or the input whose ending a zip took
-abbrev pub last_of : Note → Option ℕ
+-- what a choice took
+abbrev pub recorded : ℕ → Recorded
+recorded choice = if choice == MAIN then last.Main else last.From choice
+
+-- what stands last in a record: what a choice took, or the input whose ending a zip took
+abbrev pub last_of : Note → Option Recorded
 last_of note.Nothing = None
-last_of (note.Picks choices) = slice_get choices (length choices - 1)
-last_of (note.Ended input) = input
+last_of (note.Picks choices) = option_map recorded (slice_get choices (length choices - 1))
+last_of (note.Ended input) = option_map last.From input
 
 -- a node over its edge to this receiver, in whose queue for it so many signals wait
 abbrev pub look : {M T : Type 0} → Machine M T → Nodes M T → Option ℕ → Option ℕ → Edge → M → NodeLook
-look b d receiver queued e n = record { operator = d.operator_of n; receiver = receiver; asked = e.demand.asked; sent = e.demand.sent; edge = edge_look e.state; queued = queued; offer = offer_of (b.shown n); last = last_of (b.recorded n) }
+look b d receiver queued e n = record { operator = d.operator_of n; receiver = receiver; asked = e.demand.asked; sent = e.demand.sent; edge = edge_look e.state; crossing = d.crossing_of n; queued = queued; lanes = d.lanes_of n; offer = offer_of (b.shown n); last = last_of (b.recorded n) }
 
 -- the nodes of a row and those below them, in pre-order, where the first has the number `first`; it is the input with the number
 -- `input` of the receiver r
@@ -50,10 +57,10 @@ row_looks b d r receiver input first End = []
 row_looks b d r receiver input first (More' e n p below q beside) =
     look b d (Some receiver) (d.queued_of r input) e n ∷ (row_looks b d n first 0 (first + 1) below ++ row_looks b d r receiver (input + 1) (first + 1 + size below) beside)
 
--- the nodes of a tree, whose root has the number 0 and this edge
-abbrev pub tree_looks : {M T : Type 0} → Machine M T → Nodes M T → Edge → Node M → List NodeLook
-tree_looks b d root t = look b d None None root t.machine ∷ row_looks b d t.machine 0 0 1 t.inputs
+-- the nodes of a tree, whose root has the number 0 and this edge, where so many signals wait for the subscriber
+abbrev pub tree_looks : {M T : Type 0} → Machine M T → Nodes M T → ℕ → Edge → Node M → List NodeLook
+tree_looks b d queued root t = look b d None (Some queued) root t.machine ∷ row_looks b d t.machine 0 0 1 t.inputs
 
 -- the subscription with this number is there, and its nodes do this
 abbrev pub HasLooks : {M T : Type 0} → Machine M T → Nodes M T → List (Subscription M T) → SubId → List NodeLook → Type 0
-HasLooks {M} {T} b d subs i looks = (s : Subscription M T) × (slice_get subs i.0 ≡ Some s) × (looks ≡ tree_looks b d s.part.root s.part.tree)
+HasLooks {M} {T} b d subs i looks = (s : Subscription M T) × (slice_get subs i.0 ≡ Some s) × (looks ≡ tree_looks b d (length s.queue) s.part.root s.part.tree)

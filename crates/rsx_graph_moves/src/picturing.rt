@@ -2,7 +2,7 @@
 
 ghost use Rattle.std.specs.Prelude.{◌≡◌, ◌++◌, ◌≤◌, OnOk, IfOk, IfErr, Some, length, slice_get};
 ghost use Rattle.rsx_graph_state.specs.Answers.{IsLookRefusal};
-ghost use Rattle.rsx_graph_moves.specs.Pictures.{HasLooks, edge_look, last_of, look, offer_of, row_looks, tree_looks};
+ghost use Rattle.rsx_graph_moves.specs.Pictures.{HasLooks, edge_look, last_of, look, offer_of, recorded, row_looks, tree_looks};
 
 use rsx_graph_state::Refusal;
 use rsx_pipe::Nodes;
@@ -10,7 +10,8 @@ use rsx_sources::Front;
 use rsx_subscriber::Subscription;
 use rsx_tree::{Edge, EdgeState, Inputs, Node};
 use rsx_types::{NoMemory, Note, SubId};
-use rsx_waits::{EdgeLook, NodeLook, Offer, Picture};
+use rsx_values::MAIN;
+use rsx_waits::{EdgeLook, NodeLook, Offer, Picture, Recorded};
 use std::alloc::Global;
 
 /// What the nodes of the tree of the subscription with this number do now, in pre-order.
@@ -29,19 +30,26 @@ pub fn picture<N: Nodes<Item = T>, T: Drop>(
     if at >= subscriptions.len() {
         return Err(Refusal::UnknownSub);
     }
-    let rooted = subscriptions[at].part().rooted();
-    match looks_of(alloc, &rooted.root, &rooted.tree) {
+    let subscription = &subscriptions[at];
+    let queued = subscription.queue().len() as u64;
+    let rooted = subscription.part().rooted();
+    match looks_of(alloc, queued, &rooted.root, &rooted.tree) {
         Ok(nodes) => Ok(Picture { nodes }),
         Err(NoMemory) => Err(Refusal::NoMemory),
     }
 }
 
-/// What the nodes of a tree do, where this is its own edge.
-fn looks_of<N: Nodes>(alloc: Global, root: &Edge, tree: &Node<N>) -> Result<Vec<NodeLook>, NoMemory>
-    ensures { IfOk result (λ looks. looks.items ≡ tree_looks N.Machine N.Nodes.own root.now tree.now) }
+/// What the nodes of a tree do, where this is its own edge, and so many signals wait for the subscriber.
+fn looks_of<N: Nodes>(
+    alloc: Global,
+    queued: u64,
+    root: &Edge,
+    tree: &Node<N>,
+) -> Result<Vec<NodeLook>, NoMemory>
+    ensures { IfOk result (λ looks. looks.items ≡ tree_looks N.Machine N.Nodes.own queued root.now tree.now) }
 {
     let mut looks = Vec::new(alloc);
-    let look = look_at(alloc, None, None, root, &tree.machine)?;
+    let look = look_at(alloc, None, Some(queued), root, &tree.machine)?;
     looks.push(look)?;
     add_row(alloc, &tree.inputs, &tree.machine, 0, 0, &mut looks)?;
     Ok(looks)
@@ -92,21 +100,37 @@ fn look_at<N: Nodes>(
         asked: edge.demand.asked,
         sent: edge.demand.sent,
         edge: look_of_edge(edge.state),
+        crossing: machine.crossing(),
         queued,
+        lanes: machine.lanes(),
         offer: offered(machine.front()),
         last: last_of(&note),
     })
 }
 
 /// What stands last in a record: a choice, or the input whose ending a `zip` took.
-fn last_of(note: &Note) -> Option<u64>
+fn last_of(note: &Note) -> Option<Recorded>
     ensures { result ≡ last_of note.now }
 {
     match note {
         Note::Nothing => None,
-        Note::Picks(choices) => choices.as_slice().last().copied(),
+        Note::Picks(choices) => match choices.as_slice().last() {
+            Some(choice) => Some(recorded(*choice)),
+            None => None,
+        },
         Note::Ended(None) => None,
-        Note::Ended(Some(input)) => Some(*input as u64),
+        Note::Ended(Some(input)) => Some(Recorded::From(*input as u64)),
+    }
+}
+
+/// What this choice took.
+fn recorded(choice: u64) -> Recorded
+    ensures { result ≡ recorded choice }
+{
+    if choice == MAIN {
+        Recorded::Main
+    } else {
+        Recorded::From(choice)
     }
 }
 

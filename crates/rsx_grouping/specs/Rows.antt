@@ -1,5 +1,6 @@
 -- The lanes of a `groupBy` with their keys.
-use Rattle.std.specs.Prelude.{⊤, ℕ, Bool, true, false, ◌&&◌, List, [], ◌∷◌, map, Option, Some, None}
+use Rattle.std.specs.Prelude.{⊤, ℕ, Bool, true, false, ◌&&◌, List, [], ◌∷◌, length, map, Option, Some, None}
+use Rattle.rsx_demand.specs.Demand.{saturating_total}
 use Rattle.rsx_grouping.specs.Lane.{is_quiet, is_gone, can_pick, GoesOn}
 use Rattle.rsx_grouping.specs.declared.table.KeyedLane.{KeyedLane}
 
@@ -16,6 +17,11 @@ are_quiet (r ∷ rows) = is_quiet r.lane && are_quiet rows
 abbrev pub are_gone : {T : Type 0} → List (KeyedLane T) → Bool
 are_gone [] = true
 are_gone (r ∷ rows) = is_gone r.lane && are_gone rows
+
+-- how many items wait in them, beside so many others: at most 2^63-1
+abbrev pub waiting_after : {T : Type 0} → ℕ → List (KeyedLane T) → ℕ
+waiting_after n [] = n
+waiting_after n (r ∷ rows) = waiting_after (saturating_total n (length r.lane.waiting)) rows
 
 -- no chain of a lane that runs is over
 abbrev pub GoOn : {T : Type 0} → List (KeyedLane T) → Type 0

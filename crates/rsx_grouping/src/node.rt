@@ -52,6 +52,7 @@ impl<T: Drop> GroupByNode<T> {
     ghost use Rattle.rsx_queued.specs.Output.{is_empty};
     ghost use Rattle.rsx_queued.specs.declared.output.Output.TheVariants.{Empty};
     ghost use Rattle.rsx_grouping.specs.MainState.{is_ready};
+    ghost use Rattle.rsx_grouping.specs.Rows.{waiting_after};
     ghost use Rattle.rsx_grouping.specs.GroupBy.{GivesGroups, group_comes_out, group_recording, group_ended, group_done, group_counted, unless_complete, after_signal};
 
     /// `groupBy` by this function, with a chain of these operators in each lane.
@@ -72,6 +73,13 @@ impl<T: Drop> GroupByNode<T> {
             choices: Record::new(alloc),
             got: 0,
         }
+    }
+
+    /// How many items wait in its lanes to be picked; at most 2^63-1.
+    pub fn waiting(&self) -> u64
+        ensures { result ≡ waiting_after 0 self.now.table }
+    {
+        self.table.waiting()
     }
 
     /// Puts the completion out where Main and all lanes were picked to their ends. Nothing was put out.

@@ -5,7 +5,7 @@ ghost use Rattle.std.specs.Set.{is_member};
 ghost use Rattle.rsx_values.specs.Group.{see, has_place};
 ghost use Rattle.rsx_grouping.specs.Keys.{AreDistinct};
 ghost use Rattle.rsx_grouping.specs.Lane.{PickGoesOn};
-ghost use Rattle.rsx_grouping.specs.Rows.{keys_of, are_quiet, are_gone, is_gone_at, can_pick_at, GoOn};
+ghost use Rattle.rsx_grouping.specs.Rows.{keys_of, are_quiet, are_gone, is_gone_at, can_pick_at, GoOn, waiting_after};
 ghost use Rattle.rsx_grouping.specs.Table.{TakesKeyed, TakesFirstAt, CommitsAt};
 ghost use Rattle.rsx_grouping.specs.declared.table.KeyedLane.{KeyedLane as KeyedLaneSpec};
 
@@ -70,6 +70,16 @@ fn are_gone<T: Drop>(rows: &[KeyedLane<T>]) -> bool
     }
 }
 
+/// How many items wait in these lanes, beside `count` others; at most 2^63-1.
+fn waiting_after<T: Drop>(rows: &[KeyedLane<T>], count: u64) -> u64
+    ensures { result ≡ waiting_after count rows.now }
+{
+    match rows.split_first() {
+        None => count,
+        Some((row, behind)) => waiting_after(behind, row.lane.waiting.count_with(count)),
+    }
+}
+
 impl<T: Drop> LaneTable<T> {
     /// No lanes. It takes no memory.
     pub fn new(alloc: Global) -> LaneTable<T>
@@ -95,6 +105,13 @@ impl<T: Drop> LaneTable<T> {
         ensures small { length self.now < 2 ^ 64 }
     {
         self.rows.len()
+    }
+
+    /// How many items wait in all lanes; at most 2^63-1.
+    pub fn waiting(&self) -> u64
+        ensures { result ≡ waiting_after 0 self.now }
+    {
+        waiting_after(self.rows.as_slice(), 0)
     }
 
     /// Whether a lane has this key, or may have it as one more ([`LaneKeys::has_place`]).

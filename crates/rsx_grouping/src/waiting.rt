@@ -2,6 +2,7 @@
 
 ghost use Rattle.std.specs.Prelude.{◌≡◌, List, ◌++◌, map, IfOk, OnOk};
 
+use rsx_demand::saturating_total;
 use rsx_types::{NoMemory, Ops};
 use std::alloc::Global;
 use std::marker::Model;
@@ -25,8 +26,9 @@ impl<T> Model for WaitingItems<T> {
 }
 
 impl<T: Drop> WaitingItems<T> {
-    ghost use Rattle.std.specs.Prelude.{◌≡◌, [], ◌++◌, slice_get};
+    ghost use Rattle.std.specs.Prelude.{◌≡◌, [], ◌++◌, length, slice_get};
     ghost use Rattle.std.specs.Option.{option_copied, option_to_list};
+    ghost use Rattle.rsx_demand.specs.Demand.{saturating_total};
     ghost use Rattle.rsx_sources.specs.Slot.{is_nil};
 
     /// These items.
@@ -37,6 +39,18 @@ impl<T: Drop> WaitingItems<T> {
         behind.reverse();
         let first = behind.pop();
         WaitingItems { first, behind }
+    }
+
+    /// How many items wait, and `count` others; at most 2^63-1.
+    #[tactic(auto, using(crate::proofs::Waits::counted))]
+    pub fn count_with(&self, count: u64) -> u64
+        ensures { result ≡ saturating_total count (length self.now) }
+    {
+        let behind = self.behind.len() as u64;
+        match &self.first {
+            None => saturating_total(count, 0),
+            Some(_) => saturating_total(saturating_total(count, 1), behind),
+        }
     }
 
     /// Whether no item waits.

@@ -7,7 +7,7 @@ use Rattle.rsx_tree.specs.Prelude.{is_live}
 use Rattle.rsx_tree.specs.declared.edge.EdgeState.{EdgeState}
 use Rattle.rsx_kinds.specs.Crossings.{is_crossing}
 use Rattle.rsx_kinds.specs.Operators.{operator_of}
-use Rattle.rsx_kinds.specs.Queues.{queued_of}
+use Rattle.rsx_kinds.specs.Queues.{crossing_of, lanes_of, queued_of}
 use Rattle.rsx_rooted.specs.declared.nodes.Nodes.{Ghosts as Nodes}
 use Rattle.rsx_rooted.specs.declared.nodes.Route.{Route}
 use Rattle.rsx_rooted.specs.declared.nodes.Route.TheVariants.{Straight, Queued}
@@ -19,4 +19,4 @@ route_by (Crossing q) state asked sent = Queued (is_live state && can_transfer k
 
 -- how the nodes of a tree join, which of their edges cross, which operators they are, and what waits in their queues
 abbrev pub tree_nodes : {T : Type 0} → Nodes (TreeNode T) T
-tree_nodes = record { route_by = route_by; operator_of = operator_of; queued_of = queued_of }
+tree_nodes = record { route_by = route_by; operator_of = operator_of; queued_of = queued_of; crossing_of = crossing_of; lanes_of = lanes_of }

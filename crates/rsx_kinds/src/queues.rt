@@ -1,9 +1,37 @@
 //! How many signals wait in the queues of a node.
 
 ghost use Rattle.std.specs.Prelude.{◌≡◌};
-ghost use Rattle.rsx_kinds.specs.Queues.{any_queued, several_queued};
+ghost use Rattle.rsx_kinds.specs.Queues.{any_lanes, any_queued, several_queued, waiting_behind};
 
 use crate::{AnyNode, SeveralNode};
+use rsx_queued::{Queued, Tail};
+
+/// How many signals wait in the queue of an edge that crosses, the ending too.
+pub(crate) fn waiting_behind<T: Drop>(queued: &Queued<AnyNode<T>, T>) -> u64
+    ensures { result ≡ waiting_behind queued.now }
+{
+    let items = queued.queue.len() as u64;
+    match queued.tail {
+        Tail::Completion | Tail::Failure(_) => items + 1,
+        Tail::Open | Tail::Taken => items,
+    }
+}
+
+/// How many items wait in the node's lanes to be picked. None of a node without lanes.
+pub(crate) fn in_lanes_of<T: Drop>(node: &AnyNode<T>) -> Option<u64>
+    ensures { result ≡ any_lanes node.now }
+{
+    match node {
+        AnyNode::FlatMap(node) => Some(node.waiting()),
+        AnyNode::FlatMapDelay(node) => Some(node.waiting()),
+        AnyNode::GroupBy(node) => Some(node.waiting()),
+        AnyNode::Source(_)
+        | AnyNode::Plain(_)
+        | AnyNode::Several(_)
+        | AnyNode::PublishOn(_)
+        | AnyNode::Window(_) => None,
+    }
+}
 
 /// How many signals of this input wait in the node's queue for it. None where it has no such queue.
 pub(crate) fn queued_at_any<T: Drop>(node: &AnyNode<T>, input: u64) -> Option<u64>

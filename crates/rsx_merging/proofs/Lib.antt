@@ -4,6 +4,7 @@ pub mod Coming
 pub mod Concats
 pub mod Copied
 pub mod Fresh
+pub mod LaneItems
 pub mod Passes
 pub mod Picked
 pub mod Places

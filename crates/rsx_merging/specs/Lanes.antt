@@ -1,11 +1,26 @@
 -- What the calls of a list of numbered lanes answer.
-use Rattle.std.specs.Prelude.{◌≡◌, ℕ, ◌^◌, ◌<◌, Bool, true, false, List, [], ◌∷◌, length, slice_index_or, ⊤, Option, Some, None, option_map}
+use Rattle.std.specs.Prelude.{◌≡◌, ℕ, ◌+◌, ◌^◌, ◌<◌, Bool, true, false, List, [], ◌∷◌, length, slice_index_or, ⊤, Option, Some, None, option_map}
+use Rattle.rsx_types.specs.declared.signal.Signal.{Signal}
+use Rattle.rsx_types.specs.declared.signal.Signal.TheVariants.{Next, Complete, Error}
+use Rattle.rsx_demand.specs.Demand.{saturating_total}
 use Rattle.rsx_sources.specs.Machine.{front_of}
 use Rattle.rsx_sources.specs.declared.machine.Front.{Front}
 use Rattle.rsx_sources.specs.declared.machine.Front.TheVariants.{Item, Completion, Failure}
 use Rattle.rsx_values.specs.Pick.{InputLeft, next_of}
 use Rattle.rsx_values.proofs.Places.{given_at}
 use Rattle.rsx_plain.specs.Moves.{has_ending}
+
+-- how many items are among these signals
+abbrev pub items_in : {T : Type 0} → List (Signal T) → ℕ
+items_in [] = 0
+items_in (Next x ∷ ss) = 1 + items_in ss
+items_in (Complete ∷ ss) = items_in ss
+items_in (Error c ∷ ss) = items_in ss
+
+-- how many items wait in these lanes, beside so many others: at most 2^63-1
+abbrev pub waiting_after : {T : Type 0} → ℕ → List (InputLeft T) → ℕ
+waiting_after n [] = n
+waiting_after n (i ∷ is) = waiting_after (saturating_total n (items_in i.1)) is
 
 -- which signal is next in the lane with this number, if there is one
 abbrev pub next_front : {T : Type 0} → ℕ → List (InputLeft T) → Option Front

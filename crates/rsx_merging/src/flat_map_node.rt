@@ -44,6 +44,7 @@ impl<T: Drop> FlatMapNode<T> {
     ghost use Rattle.rsx_sources.specs.Slot.{is_nil};
     ghost use Rattle.rsx_queued.specs.declared.output.Output.TheVariants.{Empty};
     ghost use Rattle.rsx_merging.specs.FlatMap.{GivesFlatMap, IsGoing, with_lane, with_main};
+    ghost use Rattle.rsx_merging.specs.Lanes.{waiting_after};
 
     /// The node at which nothing came in. It takes no memory.
     pub fn new(
@@ -75,6 +76,13 @@ impl<T: Drop> FlatMapNode<T> {
         ensures { result.now ≡ self.now.choices }
     {
         self.choices.runs()
+    }
+
+    /// How many items wait in its lanes to be picked; at most 2^63-1.
+    pub fn waiting(&self) -> u64
+        ensures { result ≡ waiting_after 0 self.now.lanes }
+    {
+        self.lanes.waiting()
     }
 
     /// Whether the completions of all lanes and of Main were picked.

@@ -5,8 +5,9 @@ ghost use Rattle.rsx_types.specs.Stream.{signals};
 ghost use Rattle.rsx_sources.specs.Machine.{front_of};
 ghost use Rattle.rsx_values.specs.Pick.{InputLeft};
 ghost use Rattle.rsx_values.specs.Steps.{TakesAt, TakesNext};
-ghost use Rattle.rsx_merging.specs.Lanes.{next_front, may_take, IsPlaceOf};
+ghost use Rattle.rsx_merging.specs.Lanes.{items_in, next_front, may_take, IsPlaceOf, waiting_after};
 
+use rsx_demand::saturating_total;
 use rsx_sources::Front;
 use rsx_types::{Ending, NoMemory, Ops, Signal, StreamValue};
 use rsx_values::Input;
@@ -49,6 +50,7 @@ impl<T: Drop> Lane<T> {
     ghost use Rattle.std.specs.Option.{option_to_list};
     ghost use Rattle.rsx_types.specs.Stream.{signals};
     ghost use Rattle.rsx_sources.specs.Machine.{front_of};
+    ghost use Rattle.rsx_merging.specs.Lanes.{items_in};
 
     /// The lane with this number and the signals of this value: its items, and then its ending. It takes no memory.
     pub fn new(number: u64, value: StreamValue<T>) -> Lane<T>
@@ -99,6 +101,13 @@ impl<T: Drop> Lane<T> {
         }
     }
 
+    /// How many items it has left.
+    pub(crate) fn waiting(&self) -> u64
+        ensures { result ≡ items_in self.now.1 }
+    {
+        self.reversed.len() as u64
+    }
+
     /// Takes the next signal, if one is left.
     pub(crate) fn take(&mut self) -> Option<Signal<T>>
         ensures signal { result ≡ slice_get self.old.1 0 }
@@ -113,6 +122,16 @@ impl<T: Drop> Lane<T> {
                 Ending::Failed(cause) => Some(Signal::Error(cause)),
             },
         }
+    }
+}
+
+/// How many items wait in these lanes, beside `count` others; at most 2^63-1.
+fn waiting_after<T: Drop>(lanes: &[Lane<T>], count: u64) -> u64
+    ensures { result ≡ waiting_after count lanes.now }
+{
+    match lanes.split_first() {
+        None => count,
+        Some((lane, behind)) => waiting_after(behind, saturating_total(count, lane.waiting())),
     }
 }
 
@@ -137,7 +156,7 @@ impl<T: Drop> Lanes<T> {
     ghost use Rattle.rsx_sources.specs.Slot.{is_nil};
     ghost use Rattle.rsx_values.specs.Pick.{InputLeft};
     ghost use Rattle.rsx_values.specs.Steps.{TakesAt, TakesNext};
-    ghost use Rattle.rsx_merging.specs.Lanes.{next_front, may_take, IsPlaceOf};
+    ghost use Rattle.rsx_merging.specs.Lanes.{next_front, may_take, IsPlaceOf, waiting_after};
 
     /// No lanes. It takes no memory.
     pub fn new(alloc: Global) -> Lanes<T>
@@ -153,6 +172,13 @@ impl<T: Drop> Lanes<T> {
         ensures { result ≡ length self.now }
     {
         self.list.len()
+    }
+
+    /// How many items wait in all lanes; at most 2^63-1.
+    pub(crate) fn waiting(&self) -> u64
+        ensures { result ≡ waiting_after 0 self.now }
+    {
+        waiting_after(self.list.as_slice(), 0)
     }
 
     /// Whether no lane is live.

@@ -15,6 +15,10 @@ impl<A: Nodes, B: Nodes<Item = A::Item>> Nodes for EitherNode<A, B> {
 
     ghost queued_of = { by_kind A.queued_of B.queued_of };
 
+    ghost crossing_of = { by_kind A.crossing_of B.crossing_of };
+
+    ghost lanes_of = { by_kind A.lanes_of B.lanes_of };
+
     fn route(&self, edge: &Edge) -> Route {
         match self {
             EitherNode::Left(node) => node.route(edge),
@@ -33,6 +37,20 @@ impl<A: Nodes, B: Nodes<Item = A::Item>> Nodes for EitherNode<A, B> {
         match self {
             EitherNode::Left(node) => node.queued_at(input),
             EitherNode::Right(node) => node.queued_at(input),
+        }
+    }
+
+    fn crossing(&self) -> Option<u64> {
+        match self {
+            EitherNode::Left(node) => node.crossing(),
+            EitherNode::Right(node) => node.crossing(),
+        }
+    }
+
+    fn lanes(&self) -> Option<u64> {
+        match self {
+            EitherNode::Left(node) => node.lanes(),
+            EitherNode::Right(node) => node.lanes(),
         }
     }
 

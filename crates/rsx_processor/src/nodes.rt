@@ -17,6 +17,10 @@ impl<P: Processor<Item = T>, T: Drop> Nodes for ProcessorNode<P, T> {
 
     ghost queued_of = { λ n input. None };
 
+    ghost crossing_of = { λ n. None };
+
+    ghost lanes_of = { λ n. None };
+
     fn route(&self, edge: &Edge) -> Route {
         Route::Straight
     }
@@ -26,6 +30,14 @@ impl<P: Processor<Item = T>, T: Drop> Nodes for ProcessorNode<P, T> {
     }
 
     fn queued_at(&self, input: u64) -> Option<u64> {
+        None
+    }
+
+    fn crossing(&self) -> Option<u64> {
+        None
+    }
+
+    fn lanes(&self) -> Option<u64> {
         None
     }
 

@@ -35,6 +35,12 @@ pub trait Nodes: Machine {
     /// How many signals of an input wait in the node's queue for it. None where it has no such queue.
     ghost queued_of: { Self → ℕ → Option ℕ };
 
+    /// How many signals wait in the queue of the node's edge. None where the edge doesn't cross.
+    ghost crossing_of: { Self → Option ℕ };
+
+    /// How many items wait in the node's lanes. None of a node without lanes.
+    ghost lanes_of: { Self → Option ℕ };
+
     ghost use Rattle.std.specs.Prelude.{◌≡◌, ◌<◌, ℕ, false, None, Some};
     ghost use Rattle.rsx_hub.specs.declared.TheConstants.{MOST_ACCEPTED};
     ghost use Rattle.rsx_rooted.specs.Local.{IsLocal};
@@ -54,6 +60,15 @@ pub trait Nodes: Machine {
     /// input, and were not taken out yet. None where the node has no queue for such an input.
     fn queued_at(&self, input: u64) -> Option<u64>
         ensures { result ≡ queued_of self.now input };
+
+    /// How many signals wait in the queue of this node's edge, where the edge crosses to another region, its ending too: they went into
+    /// it, and the receiver didn't take them yet. None where the edge doesn't cross.
+    fn crossing(&self) -> Option<u64>
+        ensures { result ≡ crossing_of self.now };
+
+    /// How many items wait in this node's lanes to be picked; at most 2^63-1. None of a node without lanes.
+    fn lanes(&self) -> Option<u64>
+        ensures { result ≡ lanes_of self.now };
 
     /// Where a node goes on, offers nothing though more is asked of it, can make no step, and nothing comes in where it waits for
     /// more, nothing comes out of it.

@@ -6,6 +6,8 @@ use Rattle.rsx_waits.specs.declared.look.EdgeLook.TheVariants as edge
 use Rattle.rsx_waits.specs.declared.look.NodeLook.{NodeLook}
 use Rattle.rsx_waits.specs.declared.look.Offer.{Offer}
 use Rattle.rsx_waits.specs.declared.look.Offer.TheVariants as offer
+use Rattle.rsx_waits.specs.declared.look.Recorded.{Recorded}
+use Rattle.rsx_waits.specs.declared.look.Recorded.TheVariants as recorded
 use Rattle.rsx_waits.specs.declared.operator.Operator.{Operator}
 use Rattle.rsx_waits.specs.Operators.{operator_text}
 
@@ -20,10 +22,24 @@ edge_text edge.Live = codes ", live"
 edge_text edge.Ended = codes ", ended"
 edge_text edge.Closed = codes ", closed"
 
+-- how many signals wait in the queue of its edge, where that crosses
+abbrev pub crossing_text : Option ℕ → List ℕ
+crossing_text None = []
+crossing_text (Some count) = codes ", " ++ (decimal count ++ codes " crossing")
+
 -- how many signals that came over its edge wait in its receiver's queue, where that has one
 abbrev pub queued_text : Option ℕ → List ℕ
 queued_text None = []
 queued_text (Some count) = codes ", " ++ (decimal count ++ codes " queued")
+
+-- how many items wait in its lanes, where it has lanes
+abbrev pub lanes_text : Option ℕ → List ℕ
+lanes_text None = []
+lanes_text (Some count) = codes ", " ++ (decimal count ++ codes " in lanes")
+
+-- what waits in queues and lanes
+abbrev pub waiting_text : NodeLook → List ℕ
+waiting_text look = crossing_text look.crossing ++ (queued_text look.queued ++ lanes_text look.lanes)
 
 -- what it offers
 abbrev pub offer_text : Offer → List ℕ
@@ -33,13 +49,14 @@ offer_text offer.Completion = codes ", offers its completion"
 offer_text offer.Failure = codes ", offers a failure"
 
 -- what it recorded last, where it recorded anything
-abbrev pub last_text : Option ℕ → List ℕ
+abbrev pub last_text : Option Recorded → List ℕ
 last_text None = []
-last_text (Some last) = codes ", recorded " ++ (decimal last ++ codes " last")
+last_text (Some (recorded.From number)) = codes ", recorded " ++ (decimal number ++ codes " last")
+last_text (Some recorded.Main) = codes ", recorded m last"
 
 -- a node with this number, and its edge
 abbrev pub look_text : ℕ → NodeLook → List ℕ
-look_text node look = head_text node look.operator look.receiver ++ (codes ": asked " ++ (decimal look.asked ++ (codes ", sent " ++ (decimal look.sent ++ (edge_text look.edge ++ (queued_text look.queued ++ (offer_text look.offer ++ last_text look.last)))))))
+look_text node look = head_text node look.operator look.receiver ++ (codes ": asked " ++ (decimal look.asked ++ (codes ", sent " ++ (decimal look.sent ++ (edge_text look.edge ++ (waiting_text look ++ (offer_text look.offer ++ last_text look.last)))))))
 
 -- these nodes, of which the first has this number
 abbrev pub looks_text : ℕ → List NodeLook → List ℕ

@@ -1,7 +1,7 @@
 //! What the nodes of a tree do now.
 
 ghost use Rattle.std.specs.Fmt.{WritesOnOk};
-ghost use Rattle.rsx_waits.specs.Looks.{edge_text, head_text, last_text, look_text, looks_text, offer_text, queued_text};
+ghost use Rattle.rsx_waits.specs.Looks.{crossing_text, edge_text, head_text, lanes_text, last_text, look_text, looks_text, offer_text, queued_text, waiting_text};
 
 use crate::Operator;
 use std::fmt;
@@ -26,14 +26,27 @@ pub struct NodeLook {
     pub sent: u64,
     /// Whether signals still go over its edge.
     pub edge: EdgeLook,
-    /// How many signals that came over its edge wait in its receiver's queue for them, its ending too. None where the receiver has no
-    /// such queue, and none of the root.
+    /// How many signals wait in the queue of its edge, its ending too, where the edge crosses to another region. None where it doesn't,
+    /// and none of the root.
+    pub crossing: Option<u64>,
+    /// How many signals that came over its edge wait in its receiver's queue for them, its ending too; of the root those that wait for
+    /// the subscriber. None where the receiver has no such queue.
     pub queued: Option<u64>,
+    /// How many items wait in its lanes to be picked; at most 2^63-1. None of a node without lanes.
+    pub lanes: Option<u64>,
     /// What it offers.
     pub offer: Offer,
-    /// What it recorded last: of a node that picks its last choice, the number of the input or the lane, and of a `zip` the input
-    /// whose ending it took. None where it recorded nothing.
-    pub last: Option<u64>,
+    /// What it recorded last. None where it recorded nothing.
+    pub last: Option<Recorded>,
+}
+
+/// What a node recorded last.
+#[derive(Clone, Copy, Debug, PartialEq, Eq)]
+pub enum Recorded {
+    /// The input or the lane with this number: a node that picks took a signal of it, and a `zip` its ending.
+    From(u64),
+    /// The ending of its input: a `flatMap`, a `flatMapDelayError` or a `groupBy` picked it.
+    Main,
 }
 
 /// Whether signals still go over an edge.
@@ -89,7 +102,7 @@ fn write_look<W: fmt::Write>(f: &mut fmt::Formatter<W>, node: usize, look: &Node
     write_head(f, node, look.operator, look.receiver)?;
     write!(f, ": asked {}, sent {}", look.asked, look.sent)?;
     write_edge(f, look.edge)?;
-    write_queued(f, look.queued)?;
+    write_waiting(f, look)?;
     write_offer(f, look.offer)?;
     write_last(f, look.last)
 }
@@ -120,12 +133,41 @@ fn write_edge<W: fmt::Write>(f: &mut fmt::Formatter<W>, edge: EdgeLook) -> fmt::
     }
 }
 
+/// What waits in queues and lanes.
+fn write_waiting<W: fmt::Write>(f: &mut fmt::Formatter<W>, look: &NodeLook) -> fmt::Result
+    ensures { WritesOnOk W.write_str_gives f.old result (waiting_text look.now) f.new }
+{
+    write_crossing(f, look.crossing)?;
+    write_queued(f, look.queued)?;
+    write_lanes(f, look.lanes)
+}
+
+/// How many signals wait in the queue of an edge, where it crosses.
+fn write_crossing<W: fmt::Write>(f: &mut fmt::Formatter<W>, crossing: Option<u64>) -> fmt::Result
+    ensures { WritesOnOk W.write_str_gives f.old result (crossing_text crossing) f.new }
+{
+    match crossing {
+        Some(crossing) => write!(f, ", {crossing} crossing"),
+        None => Ok(()),
+    }
+}
+
 /// How many signals wait in a receiver's queue, where it has one.
 fn write_queued<W: fmt::Write>(f: &mut fmt::Formatter<W>, queued: Option<u64>) -> fmt::Result
     ensures { WritesOnOk W.write_str_gives f.old result (queued_text queued) f.new }
 {
     match queued {
         Some(queued) => write!(f, ", {queued} queued"),
+        None => Ok(()),
+    }
+}
+
+/// How many items wait in the lanes of a node, where it has lanes.
+fn write_lanes<W: fmt::Write>(f: &mut fmt::Formatter<W>, lanes: Option<u64>) -> fmt::Result
+    ensures { WritesOnOk W.write_str_gives f.old result (lanes_text lanes) f.new }
+{
+    match lanes {
+        Some(lanes) => write!(f, ", {lanes} in lanes"),
         None => Ok(()),
     }
 }
@@ -143,11 +185,12 @@ fn write_offer<W: fmt::Write>(f: &mut fmt::Formatter<W>, offer: Offer) -> fmt::R
 }
 
 /// What a node recorded last, where it recorded anything.
-fn write_last<W: fmt::Write>(f: &mut fmt::Formatter<W>, last: Option<u64>) -> fmt::Result
+fn write_last<W: fmt::Write>(f: &mut fmt::Formatter<W>, last: Option<Recorded>) -> fmt::Result
     ensures { WritesOnOk W.write_str_gives f.old result (last_text last) f.new }
 {
     match last {
-        Some(last) => write!(f, ", recorded {last} last"),
+        Some(Recorded::From(number)) => write!(f, ", recorded {number} last"),
+        Some(Recorded::Main) => f.write_str(", recorded m last"),
         None => Ok(()),
     }
 }
