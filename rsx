@@ -2,7 +2,7 @@
 # Runs the program `rsx`: its arguments, standard input, output and exit status are handed through.
 #
 #   ./rsx run < SCRIPT           the proved program; where it isn't built for these sources yet, it is built first
-#   ./rsx --trial run < SCRIPT   the program before any proof, in a minute or two
+#   ./rsx --trial run < SCRIPT   the program before any proof, in some minutes
 #
 # README.md says how long each took where it was measured.
 #
@@ -86,7 +86,7 @@ prepare() {
 # Runs the program before any proof, on these arguments. What `rt try` says of a run that ended is left out.
 try() {
     prepare
-    say 'a trial: nothing of this program is proved (it is compiled first, which takes a minute or two)'
+    say 'a trial: nothing of this program is proved (it is compiled first: some two and a half minutes of processor time, longer on a busy machine)'
     cat >"$room/stdin" 2>/dev/null
     if (($(wc -c <"$room/stdin") > 64 << 20)); then
         say 'a trial takes at most 64 MiB of standard input'
