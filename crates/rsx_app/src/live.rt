@@ -260,13 +260,16 @@ impl LiveScript {
     }
 }
 
-/// Whether some node of an expression is in another region than 0: whether it has a `publishOn` of another worker.
+/// Whether some node of an expression is in another region than 0: whether it has a `publishOn` or a `publishOnEager` of another worker.
 #[cycle(regions)]
 fn has_other_region<T>(expr: &Expr<T>) -> bool {
-    if let Expr::On(worker, _, _) = expr {
-        if *worker != 0 {
-            return true;
-        }
+    let worker = match expr {
+        Expr::On(worker, _, _) => *worker,
+        Expr::OnEager(worker, _, _) => *worker,
+        _ => 0,
+    };
+    if worker != 0 {
+        return true;
     }
     match below_of(expr) {
         Below::One(input) => has_other_region(input),

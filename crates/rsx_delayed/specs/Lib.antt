@@ -5,4 +5,7 @@ pub mod FlatMapDelayLaws
 pub mod FlatWorked
 pub mod MergeDelay
 pub mod MergeDelayLaws
+pub mod PublishOnEager
+pub mod PublishOnEagerLaws
 pub mod Rest
+pub mod TwoRuns

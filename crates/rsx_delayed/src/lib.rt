@@ -1,5 +1,6 @@
 #![tactic(auto)]
-//! The nodes `mergeDelayError` and `flatMapDelayError`: the merge of several inputs, and `flatMap`, that delay failures.
+//! The nodes `mergeDelayError` and `flatMapDelayError`, the merge of several inputs and `flatMap` that delay failures, and
+//! `publishOnEager`, whose failure overtakes items.
 //!
 //! # mergeDelayError
 //!
@@ -20,13 +21,27 @@
 //! [`FlatMapDelayNode`] holds what the node `flatMap` holds, and the failure that was picked first. The definition is
 //! `flat_map_delay` in `specs/Flat` of `rsx_values`; `flat_law` says what it comes to. `specs/FlatMapDelay` describes the node, and
 //! `specs/FlatMapDelayLaws` has its laws.
+//!
+//! # publishOnEager
+//!
+//! It is `publishOn` but for a failure, which overtakes the items that wait before it.
+//!
+//! [`PublishOnEagerNode`] holds what the node `publishOn` holds. It offers an item once that was picked, and records each pick: 0 for
+//! an item, and 1 for the failure, which drops the items before it. So under what it recorded what comes out is `eager_of` of what
+//! comes in; `eager_law` says what that comes to. The record has memory for its two runs from the start ([`TwoRuns`]), so no pick takes
+//! any. `specs/PublishOnEager` describes the node, and `specs/PublishOnEagerLaws` has its laws.
 
+pub mod eager_law;
 mod flat;
 pub mod flat_law;
 pub mod flat_map_delay_node;
 pub mod law;
 pub mod merge_delay_node;
+pub mod publish_on_eager_node;
 mod remaining;
+pub mod two_runs;
 
 pub use flat_map_delay_node::FlatMapDelayNode;
 pub use merge_delay_node::MergeDelayNode;
+pub use publish_on_eager_node::{Chosen, PublishOnEagerNode};
+pub use two_runs::TwoRuns;

@@ -13,8 +13,8 @@ use Rattle.rsx_script.specs.declared.words.LineRefusal.TheVariants.{TooLong}
 use Rattle.rsx_script.specs.Words.{column_of, is_separator}
 use Rattle.rsx_script.specs.Numbers.{u8_of, u32_of, u64_of, signed_of}
 use Rattle.rsx_script.specs.Reading.{Left, ◌>>=◌, left_at, name_at, number_at, opening_at, closing_at, is_opening_next}
-use Rattle.rsx_script.specs.Orders.{Tree, Trees, items, range, hub, plain, concat, merge, merge_delay, zip, latest, group, window, flat, flat_delay, on, none, first}
-use Rattle.rsx_script.specs.Expressions.{stage_at, range_at, hub_at, group_at, window_at, flat_at, flat_delay_at, on_at, one_input_at, over_one_at, operator_at, expression_at, inputs_at}
+use Rattle.rsx_script.specs.Orders.{Tree, Trees, items, range, hub, plain, concat, merge, merge_delay, zip, latest, group, window, flat, flat_delay, on, on_eager, none, first}
+use Rattle.rsx_script.specs.Expressions.{stage_at, range_at, hub_at, group_at, window_at, flat_at, flat_delay_at, on_at, on_eager_at, one_input_at, over_one_at, operator_at, expression_at, inputs_at}
 use Rattle.rsx_script.specs.Commands.{expression_of_line, alone_at}
 use Rattle.rsx_script.proofs.Runs.{is_opening_at}
 use Rattle.rsx_drive.specs.Names.{name_of, function_text}
@@ -78,6 +78,12 @@ on_is k p end r h j =
     rw (number_is u8_of end (decimal k) k 32 (decimal p ++ (32 ∷ r)) (decimal_word k (omega arith)) (unsigned_reads 8 k (omega arith) h) refl)
     (rw (u64_is p end 32 r j refl) refl)
 
+on_eager_is : (k p end : ℕ) (r : List ℕ) → k < 2 ^ 8 → p < 2 ^ 64 → on_eager_at (left_at end (32 ∷ (decimal k ++ (32 ∷ (decimal p ++ (32 ∷ r)))))) ≡ Ok (on_eager k p, left_at end (32 ∷ r))
+unfolding on_eager_at
+on_eager_is k p end r h j =
+    rw (number_is u8_of end (decimal k) k 32 (decimal p ++ (32 ∷ r)) (decimal_word k (omega arith)) (unsigned_reads 8 k (omega arith) h) refl)
+    (rw (u64_is p end 32 r j refl) refl)
+
 -- one of them over an expression that is read so
 over_is : (read : Reader) (most column end : ℕ) (name : List ℕ) (makes : Tree → Tree) (t : Tree) (l : Left) (r : List ℕ)
     → one_input_at most column name l ≡ Ok (makes, left_at end (32 ∷ put_tree t (41 ∷ r))) → read (left_at end (put_tree t (41 ∷ r))) ≡ Ok (t, left_at end (41 ∷ r))
@@ -124,6 +130,7 @@ begins (window n gs t) end r = is_opening_at end 40 _ refl
 begins (flat f c gs t) end r = is_opening_at end 40 _ refl
 begins (flat_delay f c gs t) end r = is_opening_at end 40 _ refl
 begins (on k p t) end r = is_opening_at end 40 _ refl
+begins (on_eager k p t) end r = is_opening_at end 40 _ refl
 
 -- the last input, and one with others behind it
 last_is : (read : Reader) (most end : ℕ) (t : Tree) (r : List ℕ) → read (left_at end (put_tree t (41 ∷ r))) ≡ Ok (t, left_at end (41 ∷ r))
@@ -199,6 +206,10 @@ on_case : (read : Reader) (most column : ℕ) (l : Left) → operator_at read mo
 unfolding operator_at
 on_case read most column l = refl
 
+on_eager_case : (read : Reader) (most column : ℕ) (l : Left) → operator_at read most column (codes "publishOnEager") l ≡ over_one_at read most column (codes "publishOnEager") l
+unfolding operator_at
+on_eager_case read most column l = refl
+
 is_group : (most column : ℕ) (l : Left) → one_input_at most column (codes "groupBy") l ≡ group_at most l
 unfolding one_input_at
 is_group most column l = refl
@@ -218,6 +229,10 @@ is_flat_delay most column l = refl
 is_on : (most column : ℕ) (l : Left) → one_input_at most column (codes "publishOn") l ≡ on_at l
 unfolding one_input_at
 is_on most column l = refl
+
+is_on_eager : (most column : ℕ) (l : Left) → one_input_at most column (codes "publishOnEager") l ≡ on_eager_at l
+unfolding one_input_at
+is_on_eager most column l = refl
 
 -- an operator over one input, from its parenthesis on
 over_case : (most end b column : ℕ) (name q : List ℕ) (makes : Tree → Tree) (t : Tree) (r : List ℕ) → IsWord name → is_separator b ≡ true
@@ -288,6 +303,7 @@ some_weight (window n gs t) = omega arith
 some_weight (flat f c gs t) = omega arith
 some_weight (flat_delay f c gs t) = omega arith
 some_weight (on k p t) = omega arith
+some_weight (on_eager k p t) = omega arith
 
 mutual
   -- with one more than is needed inside
@@ -335,6 +351,12 @@ mutual
       over_case (suc most) end 32 0 (codes "publishOn") (decimal i ++ (32 ∷ (decimal p ++ (32 ∷ put_tree t (41 ∷ r))))) (on i p) t r (word_of (codes "publishOn") refl) refl
       (on_case (expression_at (suc most)) (suc most) _ _)
       (is_on (suc most) _ _ ∙ on_is i p end (put_tree t (41 ∷ r)) h.0 h.1)
+      (tree_is t most end (41 ∷ r) h.2 (omega arith))
+  tree_is (on_eager i p t) zero end r h k = absurd (omega (arith, some_weight t))
+  tree_is (on_eager i p t) (suc most) end r h k =
+      over_case (suc most) end 32 0 (codes "publishOnEager") (decimal i ++ (32 ∷ (decimal p ++ (32 ∷ put_tree t (41 ∷ r))))) (on_eager i p) t r (word_of (codes "publishOnEager") refl) refl
+      (on_eager_case (expression_at (suc most)) (suc most) _ _)
+      (is_on_eager (suc most) _ _ ∙ on_eager_is i p end (put_tree t (41 ∷ r)) h.0 h.1)
       (tree_is t most end (41 ∷ r) h.2 (omega arith))
 
   trees_are : (ts : Trees) (n m end : ℕ) (r : List ℕ) → AreLines ts → weights ts ≤ n → weights ts ≤ m → inputs_at (expression_at n) m (left_at end (put_trees ts (41 ∷ r))) ≡ Ok (ts, left_at end r)

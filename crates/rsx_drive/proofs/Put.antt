@@ -10,7 +10,7 @@ use Rattle.rsx_demo.specs.declared.val.Val.{Val}
 use Rattle.rsx_demo.specs.declared.names.Role.TheVariants as for
 use Rattle.rsx_demo.specs.Texts.{item_text}
 use Rattle.rsx_script.specs.Answers.{items_text}
-use Rattle.rsx_script.specs.Orders.{Tree, Trees, items, range, hub, plain, concat, merge, merge_delay, zip, latest, group, window, flat, flat_delay, on, none, first}
+use Rattle.rsx_script.specs.Orders.{Tree, Trees, items, range, hub, plain, concat, merge, merge_delay, zip, latest, group, window, flat, flat_delay, on, on_eager, none, first}
 use Rattle.rsx_drive.specs.Names.{function_text}
 use Rattle.rsx_drive.specs.Text.{stage_text, stages_text, chain_text, tree_text, trees_text}
 
@@ -65,6 +65,7 @@ abbrev mutual
   put_tree (flat f c gs t) r = codes "(flatMap " ++ (function_text for.Expand f ++ (32 ∷ (decimal c ++ (32 ∷ put_chain gs (32 ∷ put_tree t (41 ∷ r))))))
   put_tree (flat_delay f c gs t) r = codes "(flatMapDelayError " ++ (function_text for.Expand f ++ (32 ∷ (decimal c ++ (32 ∷ put_chain gs (32 ∷ put_tree t (41 ∷ r))))))
   put_tree (on k p t) r = codes "(publishOn " ++ (decimal k ++ (32 ∷ (decimal p ++ (32 ∷ put_tree t (41 ∷ r)))))
+  put_tree (on_eager k p t) r = codes "(publishOnEager " ++ (decimal k ++ (32 ∷ (decimal p ++ (32 ∷ put_tree t (41 ∷ r)))))
 
   pub put_trees : Trees → List ℕ → List ℕ
   put_trees none r = r
@@ -136,6 +137,7 @@ mutual
   tree_put (flat f c gs t) r = ap (λ l. codes "(flatMap " ++ l) (two_put (function_text for.Expand f) (32 ∷ (decimal c ++ (32 ∷ (chain_text gs ++ (32 ∷ (tree_text t ++ (41 ∷ []))))))) _ r (ap (λ l. 32 ∷ l) (two_put (decimal c) (32 ∷ (chain_text gs ++ (32 ∷ (tree_text t ++ (41 ∷ []))))) _ r (over_put gs t r (tree_put t (41 ∷ r))))))
   tree_put (flat_delay f c gs t) r = ap (λ l. codes "(flatMapDelayError " ++ l) (two_put (function_text for.Expand f) (32 ∷ (decimal c ++ (32 ∷ (chain_text gs ++ (32 ∷ (tree_text t ++ (41 ∷ []))))))) _ r (ap (λ l. 32 ∷ l) (two_put (decimal c) (32 ∷ (chain_text gs ++ (32 ∷ (tree_text t ++ (41 ∷ []))))) _ r (over_put gs t r (tree_put t (41 ∷ r))))))
   tree_put (on k p t) r = ap (λ l. codes "(publishOn " ++ l) (two_put (decimal k) (32 ∷ (decimal p ++ (32 ∷ (tree_text t ++ (41 ∷ []))))) _ r (ap (λ l. 32 ∷ l) (two_put (decimal p) (32 ∷ (tree_text t ++ (41 ∷ []))) _ r (ap (λ l. 32 ∷ l) (closed_put t r (tree_put t (41 ∷ r)))))))
+  tree_put (on_eager k p t) r = ap (λ l. codes "(publishOnEager " ++ l) (two_put (decimal k) (32 ∷ (decimal p ++ (32 ∷ (tree_text t ++ (41 ∷ []))))) _ r (ap (λ l. 32 ∷ l) (two_put (decimal p) (32 ∷ (tree_text t ++ (41 ∷ []))) _ r (ap (λ l. 32 ∷ l) (closed_put t r (tree_put t (41 ∷ r)))))))
 
   trees_put : (ts : Trees) (r : List ℕ) → put_trees ts r ≡ trees_text ts ++ r
   trees_put none r = refl
@@ -160,6 +162,7 @@ abbrev mutual
   weight (flat f c gs t) = 2 + (length gs + weight t)
   weight (flat_delay f c gs t) = 2 + (length gs + weight t)
   weight (on k p t) = 1 + weight t
+  weight (on_eager k p t) = 1 + weight t
 
   pub weights : Trees → ℕ
   weights none = 0
@@ -207,6 +210,7 @@ mutual
   weight_len (flat f c gs t) r = omega (arith, behind_len (function_text for.Expand f) (32 ∷ (decimal c ++ (32 ∷ put_chain gs (32 ∷ put_tree t (41 ∷ r))))), behind_len (decimal c) (32 ∷ put_chain gs (32 ∷ put_tree t (41 ∷ r))), chain_len gs (32 ∷ put_tree t (41 ∷ r)), weight_len t (41 ∷ r))
   weight_len (flat_delay f c gs t) r = omega (arith, behind_len (function_text for.Expand f) (32 ∷ (decimal c ++ (32 ∷ put_chain gs (32 ∷ put_tree t (41 ∷ r))))), behind_len (decimal c) (32 ∷ put_chain gs (32 ∷ put_tree t (41 ∷ r))), chain_len gs (32 ∷ put_tree t (41 ∷ r)), weight_len t (41 ∷ r))
   weight_len (on k p t) r = omega (arith, behind_len (decimal k) (32 ∷ (decimal p ++ (32 ∷ put_tree t (41 ∷ r)))), behind_len (decimal p) (32 ∷ put_tree t (41 ∷ r)), weight_len t (41 ∷ r))
+  weight_len (on_eager k p t) r = omega (arith, behind_len (decimal k) (32 ∷ (decimal p ++ (32 ∷ put_tree t (41 ∷ r)))), behind_len (decimal p) (32 ∷ put_tree t (41 ∷ r)), weight_len t (41 ∷ r))
 
   weights_len : (ts : Trees) (r : List ℕ) → weights ts + length r ≤ length (put_trees ts r)
   weights_len none r = omega arith

@@ -20,3 +20,15 @@ one_more xs i x h e =
     ap (λ l. trees_text (trees_of (map tree_of l))) more
     ∙ ap (λ l. trees_text (trees_of l)) (map_push tree_of (take i xs) x)
     ∙ one_behind (map tree_of (take i xs)) (tree_of x))
+
+-- ---- what is written behind the beginning of an operator
+
+-- two words, each with a space behind it
+pub behind_two : (x y r : List ℕ) → (x ++ (32 ∷ (y ++ 32 ∷ []))) ++ r ≡ x ++ (32 ∷ (y ++ (32 ∷ r)))
+behind_two x y r = append_assoc x (32 ∷ (y ++ 32 ∷ [])) r ∙ ap (λ l. x ++ (32 ∷ l)) (append_assoc y (32 ∷ []) r)
+
+-- a word, and a chain in its parentheses, each with a space behind it
+pub behind_chain : (x s r : List ℕ) → (x ++ (32 ∷ 40 ∷ (s ++ 41 ∷ 32 ∷ []))) ++ r ≡ x ++ (32 ∷ 40 ∷ ((s ++ 41 ∷ []) ++ (32 ∷ r)))
+behind_chain x s r =
+    append_assoc x (32 ∷ 40 ∷ (s ++ 41 ∷ 32 ∷ [])) r
+    ∙ ap (λ l. x ++ (32 ∷ 40 ∷ l)) (append_assoc s (41 ∷ 32 ∷ []) r ∙ sym (append_assoc s (41 ∷ []) (32 ∷ r)))

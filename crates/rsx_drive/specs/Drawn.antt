@@ -3,7 +3,7 @@ use Rattle.std.specs.Prelude.{ℕ, zero, suc, ◌+◌, List, [], ◌++◌, codes
 use Rattle.std.specs.Fmt.{decimal, signed_decimal}
 use Rattle.rsx_demo.specs.declared.names.Role.TheVariants as for
 use Rattle.rsx_script.specs.Answers.{items_text}
-use Rattle.rsx_script.specs.Orders.{Tree, Trees, items, range, hub, plain, concat, merge, merge_delay, zip, latest, group, window, flat, flat_delay, on, none, first}
+use Rattle.rsx_script.specs.Orders.{Tree, Trees, items, range, hub, plain, concat, merge, merge_delay, zip, latest, group, window, flat, flat_delay, on, on_eager, none, first}
 use Rattle.rsx_drive.specs.Names.{function_text}
 use Rattle.rsx_drive.specs.Text.{chain_text, stage_text}
 
@@ -23,6 +23,7 @@ operator_text (window n gs t) = codes "window " ++ (decimal n ++ (codes " " ++ c
 operator_text (flat f c gs t) = codes "flatMap " ++ (function_text for.Expand f ++ (codes " " ++ (decimal c ++ (codes " " ++ chain_text gs))))
 operator_text (flat_delay f c gs t) = codes "flatMapDelayError " ++ (function_text for.Expand f ++ (codes " " ++ (decimal c ++ (codes " " ++ chain_text gs))))
 operator_text (on k p t) = codes "publishOn " ++ (decimal k ++ (codes " " ++ decimal p))
+operator_text (on_eager k p t) = codes "publishOnEager " ++ (decimal k ++ (codes " " ++ decimal p))
 
 -- two spaces for each level
 abbrev pub indent_text : ℕ → List ℕ
@@ -50,6 +51,7 @@ abbrev mutual
   nodes (flat f c gs t) = 1 + nodes t
   nodes (flat_delay f c gs t) = 1 + nodes t
   nodes (on k p t) = 1 + nodes t
+  nodes (on_eager k p t) = 1 + nodes t
 
   pub all_nodes : Trees → ℕ
   all_nodes none = 0
@@ -72,6 +74,7 @@ abbrev mutual
   rows_text depth number (flat f c gs t) = row_text depth number (flat f c gs t) ++ rows_text (depth + 1) (number + 1) t
   rows_text depth number (flat_delay f c gs t) = row_text depth number (flat_delay f c gs t) ++ rows_text (depth + 1) (number + 1) t
   rows_text depth number (on k p t) = row_text depth number (on k p t) ++ rows_text (depth + 1) (number + 1) t
+  rows_text depth number (on_eager k p t) = row_text depth number (on_eager k p t) ++ rows_text (depth + 1) (number + 1) t
 
   pub all_rows_text : ℕ → ℕ → Trees → List ℕ
   all_rows_text depth number none = []

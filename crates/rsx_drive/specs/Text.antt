@@ -10,7 +10,7 @@ use Rattle.rsx_demo.specs.declared.names.Role.TheVariants as for
 use Rattle.rsx_demo.specs.Texts.{item_text}
 use Rattle.rsx_script.specs.Commands.{expression_of_line}
 use Rattle.rsx_script.specs.Answers.{items_text}
-use Rattle.rsx_script.specs.Orders.{Tree, Trees, items, range, hub, plain, concat, merge, merge_delay, zip, latest, group, window, flat, flat_delay, on, none, first}
+use Rattle.rsx_script.specs.Orders.{Tree, Trees, items, range, hub, plain, concat, merge, merge_delay, zip, latest, group, window, flat, flat_delay, on, on_eager, none, first}
 use Rattle.rsx_drive.specs.Names.{name_of, function_text}
 
 -- a plain operator, without its parentheses and its input
@@ -48,6 +48,7 @@ abbrev mutual
   tree_text (flat f c gs t) = codes "(flatMap " ++ (function_text for.Expand f ++ (codes " " ++ (decimal c ++ (codes " " ++ (chain_text gs ++ (codes " " ++ (tree_text t ++ codes ")")))))))
   tree_text (flat_delay f c gs t) = codes "(flatMapDelayError " ++ (function_text for.Expand f ++ (codes " " ++ (decimal c ++ (codes " " ++ (chain_text gs ++ (codes " " ++ (tree_text t ++ codes ")")))))))
   tree_text (on k p t) = codes "(publishOn " ++ (decimal k ++ (codes " " ++ (decimal p ++ (codes " " ++ (tree_text t ++ codes ")")))))
+  tree_text (on_eager k p t) = codes "(publishOnEager " ++ (decimal k ++ (codes " " ++ (decimal p ++ (codes " " ++ (tree_text t ++ codes ")")))))
 
   pub trees_text : Trees → List ℕ
   trees_text none = []
@@ -99,6 +100,7 @@ abbrev mutual
   IsLine (flat f c gs t) = IsSome (name_of for.Expand f) × (c < 2 ^ 64) × AreLineStages gs × IsLine t
   IsLine (flat_delay f c gs t) = IsSome (name_of for.Expand f) × (c < 2 ^ 64) × AreLineStages gs × IsLine t
   IsLine (on k p t) = (k < 2 ^ 8) × (p < 2 ^ 64) × IsLine t
+  IsLine (on_eager k p t) = (k < 2 ^ 8) × (p < 2 ^ 64) × IsLine t
 
   pub AreLines : Trees → Type 0
   AreLines none = ⊥

@@ -62,6 +62,7 @@ fn add_tree(
         Expr::Flat(_, _, _, below) => add_tree(depth + 1, number + 1, below, text),
         Expr::FlatDelay(_, _, _, below) => add_tree(depth + 1, number + 1, below, text),
         Expr::On(_, _, below) => add_tree(depth + 1, number + 1, below, text),
+        Expr::OnEager(_, _, below) => add_tree(depth + 1, number + 1, below, text),
     }
 }
 
@@ -156,6 +157,7 @@ impl fmt::Display for Operator<'_> {
                 )
             }
             Expr::On(worker, prefetch, _) => write!(f, "publishOn {worker} {prefetch}"),
+            Expr::OnEager(worker, prefetch, _) => write!(f, "publishOnEager {worker} {prefetch}"),
         }
     }
 }

@@ -102,6 +102,11 @@ fn write_tree<W: fmt::Write>(f: &mut fmt::Formatter<W>, expr: &Expr<Val>) -> fmt
             write_tree(f, below)?;
             f.write_str(")")
         }
+        Expr::OnEager(worker, prefetch, below) => {
+            write!(f, "(publishOnEager {worker} {prefetch} ")?;
+            write_tree(f, below)?;
+            f.write_str(")")
+        }
     }
 }
 

@@ -5,7 +5,7 @@ use Rattle.rsx_types.specs.declared.names.HubId.{HubId}
 use Rattle.rsx_types.specs.declared.stage.Stage.{Stage}
 use Rattle.rsx_types.specs.declared.fault.NoMemory.{NoMemory}
 use Rattle.rsx_model.specs.declared.expr.Expr.{Expr}
-use Rattle.rsx_model.specs.declared.expr.Expr.TheOpen.{Expr-F, Items, Range, Hub, Plain, Concat, Merge, MergeDelay, Zip, Latest, Group, Window, Flat, FlatDelay, On}
+use Rattle.rsx_model.specs.declared.expr.Expr.TheOpen.{Expr-F, Items, Range, Hub, Plain, Concat, Merge, MergeDelay, Zip, Latest, Group, Window, Flat, FlatDelay, On, OnEager}
 use Rattle.rsx_model.specs.declared.expr.Expr.TheViews.{out-Expr}
 
 -- an operator with its numbers and what it stands over, without where that lies in memory
@@ -24,6 +24,7 @@ pub data Root (T A : Type 0) : Type 0 where
   flat : ℕ → ℕ → List (Stage T) → A → Root T A
   flat_delay : ℕ → ℕ → List (Stage T) → A → Root T A
   on : ℕ → ℕ → A → Root T A
+  on_eager : ℕ → ℕ → A → Root T A
 
 abbrev pub root_of : {T A : Type 0} → Expr-F T A → Root T A
 root_of (Items v) = items v.items
@@ -40,6 +41,7 @@ root_of (Window n gs b) = window n gs.items b.value
 root_of (Flat f c gs b) = flat f c gs.items b.value
 root_of (FlatDelay f c gs b) = flat_delay f c gs.items b.value
 root_of (On k p b) = on k p b.value
+root_of (OnEager k p b) = on_eager k p b.value
 
 -- the operator at the root of an expression, over the expressions below it
 abbrev pub root : {T : Type 0} → Expr T → Root T (Expr T)

@@ -4,7 +4,7 @@ ghost use Rattle.std.specs.Prelude.{◌≡◌, [], Some, None, MatchResult};
 ghost use Rattle.rsx_flow.specs.declared.stages.Stages.{Stages as StagesSpec};
 ghost use Rattle.rsx_types.specs.declared.stage.Stage.TheVariants.{Map, Filter, Take, Scan, Buffer, Distinct};
 ghost use Rattle.rsx_flow.specs.Built.{built, chain};
-ghost use Rattle.rsx_flow.specs.Flow.{IsBoxed, Makes, both, boxed_of, made_of, stages_of, plain as over_plain, group as over_group, window as over_window, flat as over_flat, flat_delay as over_flat_delay, on as over_on};
+ghost use Rattle.rsx_flow.specs.Flow.{IsBoxed, Makes, both, boxed_of, made_of, stages_of, plain as over_plain, group as over_group, window as over_window, flat as over_flat, flat_delay as over_flat_delay, on as over_on, on_eager as over_on_eager};
 
 use crate::names::{Concurrency, ExpandFn, FoldFn, KeyFn, MapFn, Prefetch, TestFn, Worker};
 use crate::stages::Stages;
@@ -144,6 +144,14 @@ impl<T: Drop> Flux<T> {
         Flux::new(alloc, on_of(self.boxed(), worker.0, prefetch.0))
     }
 
+    /// As [`publish_on`](Flux::publish_on), but a failure may overtake the items that wait in the queue, which are then dropped.
+    pub fn publish_on_eager(self, worker: Worker, prefetch: Prefetch) -> Flux<T>
+        ensures { Makes (over_on_eager worker.0 prefetch.0) (built self) (built result) }
+    {
+        let alloc = self.alloc;
+        Flux::new(alloc, on_eager_of(self.boxed(), worker.0, prefetch.0))
+    }
+
     /// One plain operator over what was built.
     fn plain(self, stage: Stage<T>) -> Flux<T>
         ensures { Makes (over_plain stage) (built self) (built result) }
@@ -226,4 +234,15 @@ fn on_of<T: Drop>(
     ensures { Makes (over_on worker prefetch) (boxed_of below) (made_of result) }
 {
     Ok(Expr::On(worker, prefetch, below?))
+}
+
+/// A `publishOnEager` over what was built.
+fn on_eager_of<T: Drop>(
+    below: Result<Box<Expr<T>>, NoMemory>,
+    worker: u8,
+    prefetch: u64,
+) -> Result<Expr<T>, NoMemory>
+    ensures { Makes (over_on_eager worker prefetch) (boxed_of below) (made_of result) }
+{
+    Ok(Expr::OnEager(worker, prefetch, below?))
 }

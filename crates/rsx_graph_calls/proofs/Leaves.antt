@@ -25,6 +25,7 @@ reads_here-map n h (layer.Window k gs b) = refl
 reads_here-map n h (layer.Flat f c gs b) = refl
 reads_here-map n h (layer.FlatDelay f c gs b) = refl
 reads_here-map n h (layer.On k p b) = refl
+reads_here-map n h (layer.OnEager k p b) = refl
 
 leaves_out : {T : Type 0} (n : ℕ) (e : Expr T) → leaves_on n e ≡ reads_here n (out-Expr T e) + sum_of (map (leaves_on n) (children (out-Expr T e)))
 leaves_out {T} n e =
@@ -61,6 +62,7 @@ own_none n (layer.Window k gs b) h = refl
 own_none n (layer.Flat f c gs b) h = refl
 own_none n (layer.FlatDelay f c gs b) h = refl
 own_none n (layer.On w p b) h = refl
+own_none n (layer.OnEager w p b) h = refl
 
 all_none : {T : Type 0} (n : ℕ) (es : List (Expr T)) → Each (λ e. first_fault n e ≡ None → leaves_on n e ≡ 0) es → first_of (map (first_fault n) es) ≡ None → sum_of (map (leaves_on n) es) ≡ 0
 all_none n [] each h = refl

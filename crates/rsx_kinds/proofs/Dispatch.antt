@@ -2,9 +2,9 @@
 use Rattle.std.specs.Prelude.{IfSome, ⊤}
 use Rattle.std.proofs.Common.{◌≡◌, ap, refl, ℕ, false, Option, Some, None}
 use Rattle.rsx_sources.specs.Prelude.{Meaning, Nothing, Signal, Next, Complete, Error, CountsIn, CountsOut, CountsStep, IsItemOut, IsPassed, IsTakenIn, IsReadOn, IsPopped, ItemsLeft, items_comes_out, items_popped, items_waiting, range_comes_out, range_popped, range_waiting}
-use Rattle.rsx_kinds.specs.Prelude.{AnyNode, CountsItems, Declined, FlatMapDelayNode, FlatMapNode, GroupByNode, IsGoing, IsPoppedGroup, IsPoppedWindow, Item, Kept, LeafState, Passed, PlainNode, RangeNode, SeveralNode, SourceNode, WindowNode, any_comes_out, any_counted, any_done, any_ended, any_popped, any_recorded, any_takes, any_waiting, flat_comes_out, flat_delay_comes_out, flat_delay_counted, flat_delay_done, flat_delay_ended, flat_delay_popped, flat_delay_recorded, flat_delay_takes, flat_delay_waiting, flat_done, flat_ended, flat_popped, flat_recorded, flat_takes, flat_waiting, group_comes_out, group_counted, group_done, group_ended, group_recorded, group_takes, group_waiting, leaf_comes_out, leaf_counted, leaf_popped, leaf_reads, leaf_waiting, plain_comes_out, plain_counted, plain_ended, plain_popped, plain_takes, plain_waiting, publish_comes_out, publish_counted, publish_ended, publish_popped, publish_takes, publish_waiting, several_comes_out, several_counted, several_done, several_ended, several_popped, several_recorded, several_takes, several_waiting, source_comes_out, source_counted, source_popped, source_reads, source_waiting, window_comes_out, window_done, window_ended, window_takes, window_waiting}
+use Rattle.rsx_kinds.specs.Prelude.{AnyNode, CountsItems, Declined, PublishOnEagerNode, FlatMapDelayNode, FlatMapNode, GroupByNode, IsGoing, IsPoppedGroup, IsPoppedWindow, Item, Kept, LeafState, Passed, PlainNode, RangeNode, SeveralNode, SourceNode, WindowNode, any_comes_out, any_counted, any_done, any_ended, any_popped, any_recorded, any_takes, any_waiting, IsEagerCounted, eager_comes_out, eager_done, eager_ended, eager_popped, eager_recorded, eager_takes, eager_waiting, flat_comes_out, flat_delay_comes_out, flat_delay_counted, flat_delay_done, flat_delay_ended, flat_delay_popped, flat_delay_recorded, flat_delay_takes, flat_delay_waiting, flat_done, flat_ended, flat_popped, flat_recorded, flat_takes, flat_waiting, group_comes_out, group_counted, group_done, group_ended, group_recorded, group_takes, group_waiting, leaf_comes_out, leaf_counted, leaf_popped, leaf_reads, leaf_waiting, plain_comes_out, plain_counted, plain_ended, plain_popped, plain_takes, plain_waiting, publish_comes_out, publish_counted, publish_ended, publish_popped, publish_takes, publish_waiting, several_comes_out, several_counted, several_done, several_ended, several_popped, several_recorded, several_takes, several_waiting, source_comes_out, source_counted, source_popped, source_reads, source_waiting, window_comes_out, window_done, window_ended, window_takes, window_waiting}
 use Rattle.rsx_merging.specs.declared.publish_on_node.PublishOnNode.{PublishOnNode}
-use Rattle.rsx_kinds.specs.declared.any_node.AnyNode.TheVariants.{Source, Plain, Several, PublishOn, Window, FlatMap, FlatMapDelay, GroupBy}
+use Rattle.rsx_kinds.specs.declared.any_node.AnyNode.TheVariants.{Source, Plain, Several, PublishOn, PublishOnEager, Window, FlatMap, FlatMapDelay, GroupBy}
 use Rattle.rsx_kinds.specs.declared.source_node.SourceNode.TheVariants.{Items, Range, Hub}
 
 -- ---- a source
@@ -100,6 +100,10 @@ pub popped_publish_on : {T : Type 0} (m : Meaning T) (old new : PublishOnNode T)
 popped_publish_on m old new None h = (h.0, ap PublishOn h.1)
 popped_publish_on m old new (Some s) h = h
 
+pub popped_publish_on_eager : {T : Type 0} (m : Meaning T) (old new : PublishOnEagerNode T) (o : Option (Signal T)) → IsPopped (eager_comes_out m) eager_popped (eager_waiting m old) old o new → IsPopped (any_comes_out m) any_popped (eager_waiting m old) (PublishOnEager old) o (PublishOnEager new)
+popped_publish_on_eager m old new None h = (h.0, ap PublishOnEager h.1)
+popped_publish_on_eager m old new (Some s) h = h
+
 pub popped_window : {T : Type 0} (m : Meaning T) (old new : WindowNode T) (o : Option (Signal T)) → IsPopped (window_comes_out m) IsPoppedWindow (window_waiting m old) old o new → IsPopped (any_comes_out m) any_popped (window_waiting m old) (Window old) o (Window new)
 popped_window m old new None h = (h.0, ap Window h.1)
 popped_window m old new (Some s) h = h
@@ -137,6 +141,12 @@ counted_publish_on old new (Some (Next x)) h = h
 counted_publish_on old new (Some Complete) h = tt
 counted_publish_on old new (Some (Error c)) h = tt
 
+pub counted_publish_on_eager : {T : Type 0} (old new : PublishOnEagerNode T) (o : Option (Signal T)) → CountsOut IsEagerCounted eager_ended eager_done old o new → CountsOut any_counted any_ended any_done (PublishOnEager old) o (PublishOnEager new)
+counted_publish_on_eager old new None h = tt
+counted_publish_on_eager old new (Some (Next x)) h = h
+counted_publish_on_eager old new (Some Complete) h = tt
+counted_publish_on_eager old new (Some (Error c)) h = tt
+
 pub counted_window : {T : Type 0} (old new : WindowNode T) (o : Option (Signal T)) → CountsOut CountsItems window_ended window_done old o new → CountsOut any_counted any_ended any_done (Window old) o (Window new)
 counted_window old new None h = tt
 counted_window old new (Some (Next x)) h = h
@@ -170,6 +180,9 @@ taken_several old new i s h = record { stays_ended = h.stays_ended; counts = h.c
 pub taken_publish_on : {T : Type 0} (old new : PublishOnNode T) (i : ℕ) (s : Signal T) → CountsIn publish_counted publish_ended (λ n j. false) old i s new → CountsIn any_counted any_ended any_done (PublishOn old) i s (PublishOn new)
 taken_publish_on old new i s h = record { stays_ended = h.stays_ended; counts = h.counts; stays_done = h.stays_done; is_done = h.is_done }
 
+pub taken_publish_on_eager : {T : Type 0} (old new : PublishOnEagerNode T) (i : ℕ) (s : Signal T) → CountsIn IsEagerCounted eager_ended eager_done old i s new → CountsIn any_counted any_ended any_done (PublishOnEager old) i s (PublishOnEager new)
+taken_publish_on_eager old new i s h = record { stays_ended = h.stays_ended; counts = h.counts; stays_done = h.stays_done; is_done = h.is_done }
+
 pub taken_window : {T : Type 0} (old new : WindowNode T) (i : ℕ) (s : Signal T) → CountsIn CountsItems window_ended window_done old i s new → CountsIn any_counted any_ended any_done (Window old) i s (Window new)
 taken_window old new i s h = record { stays_ended = h.stays_ended; counts = h.counts; stays_done = h.stays_done; is_done = h.is_done }
 
@@ -191,6 +204,9 @@ stepped_flat_map old new h = record { stays_ended = h.stays_ended; counts = h.co
 pub stepped_flat_map_delay : {T : Type 0} (old new : FlatMapDelayNode T) → CountsStep flat_delay_counted flat_delay_ended flat_delay_done old new → CountsStep any_counted any_ended any_done (FlatMapDelay old) (FlatMapDelay new)
 stepped_flat_map_delay old new h = record { stays_ended = h.stays_ended; counts = h.counts; stays_done = h.stays_done }
 
+pub stepped_publish_on_eager : {T : Type 0} (old new : PublishOnEagerNode T) → CountsStep IsEagerCounted eager_ended eager_done old new → CountsStep any_counted any_ended any_done (PublishOnEager old) (PublishOnEager new)
+stepped_publish_on_eager old new h = record { stays_ended = h.stays_ended; counts = h.counts; stays_done = h.stays_done }
+
 pub stepped_group_by : {T : Type 0} (old new : GroupByNode T) → CountsStep group_counted group_ended group_done old new → CountsStep any_counted any_ended any_done (GroupBy old) (GroupBy new)
 stepped_group_by old new h = record { stays_ended = h.stays_ended; counts = h.counts; stays_done = h.stays_done }
 
@@ -209,6 +225,10 @@ returned_several before s n n' h k = absurd h
 pub returned_publish_on : {T : Type 0} (before : AnyNode T) (s : Signal T) (n n' : PublishOnNode T) → any_popped before s (PublishOn n) → ((b : PublishOnNode T) → publish_popped b s n → n' ≡ b) → PublishOn n' ≡ before
 returned_publish_on (PublishOn a) s n n' h k = ap PublishOn (k a h)
 returned_publish_on before s n n' h k = absurd h
+
+pub returned_publish_on_eager : {T : Type 0} (before : AnyNode T) (s : Signal T) (n n' : PublishOnEagerNode T) → any_popped before s (PublishOnEager n) → ((b : PublishOnEagerNode T) → eager_popped b s n → n' ≡ b) → PublishOnEager n' ≡ before
+returned_publish_on_eager (PublishOnEager a) s n n' h k = ap PublishOnEager (k a h)
+returned_publish_on_eager before s n n' h k = absurd h
 
 pub returned_window : {T : Type 0} (before : AnyNode T) (s : Signal T) (n n' : WindowNode T) → any_popped before s (Window n) → ((b : WindowNode T) → IsPoppedWindow b s n → n' ≡ b) → Window n' ≡ before
 returned_window (Window a) s n n' h k = ap Window (k a h)
@@ -273,15 +293,29 @@ pub item_out_publish_on : {T : Type 0} (m : Meaning T) (old new : PublishOnNode 
 item_out_publish_on m old new None h = h
 item_out_publish_on m old new (Some x) h = record { waited = h.waited; popped_out = h.popped_out; value = h.value; notes = h.notes; counts = h.counts }
 
+pub item_out_publish_on_eager : {T : Type 0} (m : Meaning T) (old new : PublishOnEagerNode T) (o : Option T) → IfSome o (λ x. IsItemOut (eager_comes_out m) (eager_waiting m) eager_popped eager_recorded IsEagerCounted eager_ended eager_done old x new) → IfSome o (λ x. IsOutAny m (PublishOnEager old) x (PublishOnEager new))
+item_out_publish_on_eager m old new None h = h
+item_out_publish_on_eager m old new (Some x) h = record { waited = h.waited; popped_out = h.popped_out; value = h.value; notes = h.notes; counts = h.counts }
+
 in_publish_on : {T : Type 0} (m : Meaning T) (old new : PublishOnNode T) (i : ℕ) (s : Signal T) → IsTakenIn (publish_comes_out m) publish_takes (λ n. Nothing) publish_counted publish_ended (λ n j. false) old i s new →
     IsTakenIn (any_comes_out m) any_takes any_recorded any_counted any_ended any_done (PublishOn old) i s (PublishOn new)
 in_publish_on m old new i s h = record { enabled = h.enabled; value = h.value; notes = h.notes; counts = taken_publish_on old new i s h.counts; goes_on = h.goes_on }
+
+in_publish_on_eager : {T : Type 0} (m : Meaning T) (old new : PublishOnEagerNode T) (i : ℕ) (s : Signal T) → IsTakenIn (eager_comes_out m) eager_takes eager_recorded IsEagerCounted eager_ended eager_done old i s new →
+    IsTakenIn (any_comes_out m) any_takes any_recorded any_counted any_ended any_done (PublishOnEager old) i s (PublishOnEager new)
+in_publish_on_eager m old new i s h = record { enabled = h.enabled; value = h.value; notes = h.notes; counts = taken_publish_on_eager old new i s h.counts; goes_on = h.goes_on }
 
 pub passed_publish_on : {T : Type 0} (m : Meaning T) (old new : PublishOnNode T) (i : ℕ) (x : T) (r : Passed T) → IsPassed (publish_comes_out m) (publish_waiting m) publish_takes publish_popped (λ n. Nothing) publish_counted publish_ended (λ n j. false) old i x r new →
     IsPassed (any_comes_out m) (any_waiting m) any_takes any_popped any_recorded any_counted any_ended any_done (PublishOn old) i x r (PublishOn new)
 passed_publish_on m old new i x (Item y) h = (PublishOn h.0, in_publish_on m old h.0 i (Next x) h.1, item_out_publish_on m h.0 new (Some y) h.2)
 passed_publish_on m old new i x Kept h = in_publish_on m old new i (Next x) h
 passed_publish_on m old new i x (Declined y) h = (h.0, ap PublishOn h.1)
+
+pub passed_publish_on_eager : {T : Type 0} (m : Meaning T) (old new : PublishOnEagerNode T) (i : ℕ) (x : T) (r : Passed T) → IsPassed (eager_comes_out m) (eager_waiting m) eager_takes eager_popped eager_recorded IsEagerCounted eager_ended eager_done old i x r new →
+    IsPassed (any_comes_out m) (any_waiting m) any_takes any_popped any_recorded any_counted any_ended any_done (PublishOnEager old) i x r (PublishOnEager new)
+passed_publish_on_eager m old new i x (Item y) h = (PublishOnEager h.0, in_publish_on_eager m old h.0 i (Next x) h.1, item_out_publish_on_eager m h.0 new (Some y) h.2)
+passed_publish_on_eager m old new i x Kept h = in_publish_on_eager m old new i (Next x) h
+passed_publish_on_eager m old new i x (Declined y) h = (h.0, ap PublishOnEager h.1)
 
 pub item_out_window : {T : Type 0} (m : Meaning T) (old new : WindowNode T) (o : Option T) → IfSome o (λ x. IsItemOut (window_comes_out m) (window_waiting m) IsPoppedWindow (λ n. Nothing) CountsItems window_ended window_done old x new) → IfSome o (λ x. IsOutAny m (Window old) x (Window new))
 item_out_window m old new None h = h

@@ -13,6 +13,7 @@ pub mod NodeValues
 pub mod Placings
 pub mod Plains
 pub mod PublishOn
+pub mod PublishOnEager
 pub mod Rows
 pub mod Several
 pub mod SeveralDispatch

@@ -5,7 +5,7 @@ use Rattle.std.proofs.lemmas.Bool.{eq-eqb}
 use Rattle.rsx_sources.specs.Prelude.{NoMemory, HubId, Stage}
 use Rattle.rsx_kinds.specs.Prelude.{AnyNode, ArePlaced, End, Expr, Expr-F, Inputs, IsAlone, IsCrossed, IsInFront, IsOverOne, IsPlaced, IsPlacedOver, IsPlainOver, More', Node, Placed, TreeNode, children, crossings, differ, fold_out-Expr, fresh_crossings, is_crossing, map-Expr, opposite, placed, placed_beside, placed_here, placed_in, plain_ended, region_from, region_of, worker_here}
 use Rattle.rsx_model.specs.declared.expr.Expr.TheOpen as layer
-use Rattle.rsx_model.specs.declared.expr.Expr.TheViews.{Plain as PlainOf, Concat as ConcatOf, Merge as MergeOf, MergeDelay as MergeDelayOf, Zip as ZipOf, Latest as LatestOf, Group as GroupOf, Window as WindowOf, Flat as FlatOf, FlatDelay as FlatDelayOf, On as OnOf, out-Expr, outs-Items, outs-Range, outs-Hub, outs-Plain, outs-Concat, outs-Merge, outs-MergeDelay, outs-Zip, outs-Latest, outs-Group, outs-Window, outs-Flat, outs-FlatDelay, outs-On}
+use Rattle.rsx_model.specs.declared.expr.Expr.TheViews.{Plain as PlainOf, Concat as ConcatOf, Merge as MergeOf, MergeDelay as MergeDelayOf, Zip as ZipOf, Latest as LatestOf, Group as GroupOf, Window as WindowOf, Flat as FlatOf, FlatDelay as FlatDelayOf, On as OnOf, OnEager as OnEagerOf, out-Expr, outs-Items, outs-Range, outs-Hub, outs-Plain, outs-Concat, outs-Merge, outs-MergeDelay, outs-Zip, outs-Latest, outs-Group, outs-Window, outs-Flat, outs-FlatDelay, outs-On, outs-OnEager}
 use Rattle.rsx_model.specs.declared.expr.Expr.TheVariants.{Items as ItemsOf, Range as RangeOf, Hub as HubOf}
 use Rattle.rsx_model.proofs.Unfold.{Each, by_children, children-map}
 use Rattle.rsx_tree.specs.Prelude.{closed_row, closed_row_if, IsJoined}
@@ -154,7 +154,7 @@ pub placed_FlatDelay : {T : Type 0} (e : Expr T) (f c : ℕ) (gs : Vec (Stage T)
 placed_FlatDelay e f c gs box input made below r is in_box w o =
     one_if e box.value input made below r (worker_is e (FlatDelayOf f c gs box) None is (rw (outs-FlatDelay) refl)) (kids_are e (FlatDelayOf f c gs box) (box.value ∷ []) is (rw (outs-FlatDelay) refl)) in_box w o
 
--- the tree of the input of a `publishOn` has a queue where its region isn't that of the worker
+-- the tree of the input of a `publishOn` or `publishOnEager` has a queue where its region isn't that of the worker
 pub placed_On : {T : Type 0} (e : Expr T) (k p : ℕ) (box : Box (Expr T) Global) (input : Expr T) (made : Result (AnyNode T) NoMemory) (below : Node (TreeNode T)) (r : Result (Node (TreeNode T)) NoMemory) →
     e ≡ OnOf k p box → input ≡ box.value → IsPlaced input (differ k (region_of input)) below → IfOk r (λ t. IsOverOne made below t) → IfOk r (λ t. IsPlaced e false t)
 placed_On {T} e k p box input made below (Ok t) is in_box w o =
@@ -163,6 +163,15 @@ placed_On {T} e k p box input made below (Ok t) is in_box w o =
     placed_one e box.value below t o.row false (differ k (region_of input)) kids (in_place box.value input (differ k (region_of input)) below in_box w)
     (ap (λ j. differ j (region_of input)) (sym region_is) ∙ ap (λ x. differ (region_of e) (region_of x)) in_box) o.joined (ap is_crossing o.machine) o.inputs
 placed_On e k p box input made below (Err x) is in_box w o = tt
+
+pub placed_OnEager : {T : Type 0} (e : Expr T) (k p : ℕ) (box : Box (Expr T) Global) (input : Expr T) (made : Result (AnyNode T) NoMemory) (below : Node (TreeNode T)) (r : Result (Node (TreeNode T)) NoMemory) →
+    e ≡ OnEagerOf k p box → input ≡ box.value → IsPlaced input (differ k (region_of input)) below → IfOk r (λ t. IsOverOne made below t) → IfOk r (λ t. IsPlaced e false t)
+placed_OnEager {T} e k p box input made below (Ok t) is in_box w o =
+    let kids = kids_are e (OnEagerOf k p box) (box.value ∷ []) is (rw (outs-OnEager) refl) in
+    let region_is : region_of e ≡ k = region_out e ∙ ap (λ o. region_from o (map region_of (children (out-Expr T e)))) (worker_is e (OnEagerOf k p box) (Some k) is (rw (outs-OnEager) refl)) in
+    placed_one e box.value below t o.row false (differ k (region_of input)) kids (in_place box.value input (differ k (region_of input)) below in_box w)
+    (ap (λ j. differ j (region_of input)) (sym region_is) ∙ ap (λ x. differ (region_of e) (region_of x)) in_box) o.joined (ap is_crossing o.machine) o.inputs
+placed_OnEager e k p box input made below (Err x) is in_box w o = tt
 
 -- a node of several inputs
 several_if : {T E : Type 0} (e : Expr T) (es : List (Expr T)) (r : Result (Node (TreeNode T)) E) → worker_here (out-Expr T e) ≡ None → children (out-Expr T e) ≡ es → IfOk r (λ t. IsPlacedOver es t) → IfOk r (λ t. IsPlaced e false t)

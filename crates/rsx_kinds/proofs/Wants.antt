@@ -7,7 +7,7 @@ use Rattle.rsx_sources.specs.Prelude.{HubId, Stage}
 use Rattle.rsx_sources.specs.declared.machine.Machine.{Ghosts as Machine}
 use Rattle.rsx_kinds.specs.Prelude.{CountsItems, Direct, End, Expr, Expr-F, FlatMapDelayNode, FlatMapNode, GroupByNode, Inputs, MOST_CONCURRENCY, More', Several, SeveralKind, SeveralNode, WantsOfEach, WindowNode, any_machine, children, closed_row, closed_row_if, first_wanted, first_wants, flat_delay_wanted, flat_wanted, fold_out-Expr, fresh_wants, group_counted, group_wanted, map-Expr, prefetch_of, several_wanted, wants_beside, window_wanted}
 use Rattle.rsx_model.specs.declared.expr.Expr.TheOpen as layer
-use Rattle.rsx_model.specs.declared.expr.Expr.TheViews.{Plain, Group, Window, Flat, FlatDelay, On, out-Expr, outs-Items, outs-Range, outs-Hub, outs-Plain, outs-Group, outs-Window, outs-Flat, outs-FlatDelay, outs-On}
+use Rattle.rsx_model.specs.declared.expr.Expr.TheViews.{Plain, Group, Window, Flat, FlatDelay, On, OnEager, out-Expr, outs-Items, outs-Range, outs-Hub, outs-Plain, outs-Group, outs-Window, outs-Flat, outs-FlatDelay, outs-On, outs-OnEager}
 use Rattle.rsx_model.specs.declared.expr.Expr.TheVariants.{Items, Range, Hub}
 use Rattle.rsx_model.proofs.Unfold.{children-map}
 use Rattle.rsx_kinds.specs.declared.kind.SeveralKind.TheVariants.{Concat, Merge, MergeDelay, Zip, Latest}
@@ -98,3 +98,6 @@ wants_FlatDelay {T} f c gs b = rw (fold_out-Expr, outs-FlatDelay) (ap (λ l. c �
 
 pub wants_On : {T : Type 0} (k p : ℕ) (b : Box (Expr T) Global) → fresh_wants (On k p b) ≡ p ∷ fresh_wants b.value
 wants_On {T} k p b = rw (fold_out-Expr, outs-On) (ap (λ l. p ∷ l) (append-nil (fresh_wants b.value)))
+
+pub wants_OnEager : {T : Type 0} (k p : ℕ) (b : Box (Expr T) Global) → fresh_wants (OnEager k p b) ≡ p ∷ fresh_wants b.value
+wants_OnEager {T} k p b = rw (fold_out-Expr, outs-OnEager) (ap (λ l. p ∷ l) (append-nil (fresh_wants b.value)))

@@ -11,11 +11,12 @@ use Rattle.rsx_kinds.specs.Several.{several_comes_out, several_waiting, several_
 use Rattle.rsx_merging.specs.PublishOn.{publish_comes_out, publish_waiting, publish_shown, publish_popped, publish_takes, publish_wanted, publish_ended, publish_counted}
 use Rattle.rsx_window.specs.Window.{window_comes_out, window_waiting, window_shown, window_takes, window_ended, window_done, window_wanted, IsPoppedWindow, CountsItems}
 use Rattle.rsx_delayed.specs.FlatMapDelay.{flat_delay_comes_out, flat_delay_waiting, flat_delay_shown, flat_delay_takes, flat_delay_picks, flat_delay_recording, flat_delay_recorded, flat_delay_ended, flat_delay_done, flat_delay_counted, flat_delay_wanted, flat_delay_popped}
+use Rattle.rsx_delayed.specs.PublishOnEager.{eager_comes_out, eager_waiting, eager_shown, eager_takes, eager_picks, eager_recording, eager_recorded, eager_ended, eager_done, eager_wanted, eager_popped, IsEagerCounted}
 use Rattle.rsx_merging.specs.FlatMap.{flat_comes_out, flat_waiting, flat_shown, flat_takes, flat_picks, flat_recording, flat_recorded, flat_ended, flat_done, flat_wanted, flat_popped, IsGoing}
 use Rattle.rsx_grouping.specs.GroupBy.{group_comes_out, group_waiting, group_shown, group_takes, group_picks, group_recording, group_recorded, group_ended, group_done, group_counted, group_wanted, IsPoppedGroup}
 use Rattle.rsx_kinds.specs.Source.{source_comes_out, source_waiting, source_shown, source_popped, source_reads, source_counted, source_rooms, source_pop_allocates}
 use Rattle.rsx_kinds.specs.declared.any_node.AnyNode.{AnyNode}
-use Rattle.rsx_kinds.specs.declared.any_node.AnyNode.TheVariants.{Source, Plain, Several, PublishOn, Window, FlatMap, FlatMapDelay, GroupBy}
+use Rattle.rsx_kinds.specs.declared.any_node.AnyNode.TheVariants.{Source, Plain, Several, PublishOn, PublishOnEager, Window, FlatMap, FlatMapDelay, GroupBy}
 
 -- what still comes out
 abbrev pub any_comes_out : {T : Type 0} → Meaning T → AnyNode T → Incoming T → Note → Option (Stream T)
@@ -23,6 +24,7 @@ any_comes_out m (Source n) inc k = source_comes_out m n inc k
 any_comes_out m (Plain n) inc k = plain_comes_out m n inc k
 any_comes_out m (Several n) inc k = several_comes_out m n inc k
 any_comes_out m (PublishOn n) inc k = publish_comes_out m n inc k
+any_comes_out m (PublishOnEager n) inc k = eager_comes_out m n inc k
 any_comes_out m (Window n) inc k = window_comes_out m n inc k
 any_comes_out m (FlatMap n) inc k = flat_comes_out m n inc k
 any_comes_out m (FlatMapDelay n) inc k = flat_delay_comes_out m n inc k
@@ -34,6 +36,7 @@ any_waiting m (Source n) = source_waiting m n
 any_waiting m (Plain n) = plain_waiting m n
 any_waiting m (Several n) = several_waiting m n
 any_waiting m (PublishOn n) = publish_waiting m n
+any_waiting m (PublishOnEager n) = eager_waiting m n
 any_waiting m (Window n) = window_waiting m n
 any_waiting m (FlatMap n) = flat_waiting m n
 any_waiting m (FlatMapDelay n) = flat_delay_waiting m n
@@ -45,6 +48,7 @@ any_shown (Source n) = source_shown n
 any_shown (Plain n) = plain_shown n
 any_shown (Several n) = several_shown n
 any_shown (PublishOn n) = publish_shown n
+any_shown (PublishOnEager n) = eager_shown n
 any_shown (Window n) = window_shown n
 any_shown (FlatMap n) = flat_shown n
 any_shown (FlatMapDelay n) = flat_delay_shown n
@@ -56,17 +60,19 @@ any_takes (Source n) i f = false
 any_takes (Plain n) i f = plain_takes n i
 any_takes (Several n) i f = several_takes n i f
 any_takes (PublishOn n) i f = publish_takes n i f
+any_takes (PublishOnEager n) i f = eager_takes n i f
 any_takes (Window n) i f = window_takes n i
 any_takes (FlatMap n) i f = flat_takes n i f
 any_takes (FlatMapDelay n) i f = flat_delay_takes n i f
 any_takes (GroupBy n) i f = group_takes n i
 
--- whether an input can be picked; only a node of several inputs, and one of lanes, picks one
+-- whether an input can be picked; only a node of several inputs, one of lanes, and `publishOnEager` pick one
 abbrev pub any_picks : {T : Type 0} → AnyNode T → ℕ → ℕ → ℕ → Bool
 any_picks (Source n) i asked sent = false
 any_picks (Plain n) i asked sent = false
 any_picks (Several n) i asked sent = several_picks n i asked sent
 any_picks (PublishOn n) i asked sent = false
+any_picks (PublishOnEager n) i asked sent = eager_picks n i asked sent
 any_picks (Window n) i asked sent = false
 any_picks (FlatMap n) i asked sent = flat_picks n i asked sent
 any_picks (FlatMapDelay n) i asked sent = flat_delay_picks n i asked sent
@@ -78,6 +84,7 @@ any_rows (Source n) asked sent = false
 any_rows (Plain n) asked sent = false
 any_rows (Several n) asked sent = several_rows n asked sent
 any_rows (PublishOn n) asked sent = false
+any_rows (PublishOnEager n) asked sent = false
 any_rows (Window n) asked sent = false
 any_rows (FlatMap n) asked sent = false
 any_rows (FlatMapDelay n) asked sent = false
@@ -94,6 +101,7 @@ any_recording (Source n) i = Nothing
 any_recording (Plain n) i = Nothing
 any_recording (Several n) i = several_recording n i
 any_recording (PublishOn n) i = Nothing
+any_recording (PublishOnEager n) i = eager_recording n i
 any_recording (Window n) i = Nothing
 any_recording (FlatMap n) i = flat_recording n i
 any_recording (FlatMapDelay n) i = flat_delay_recording n i
@@ -105,6 +113,7 @@ any_recorded (Source n) = Nothing
 any_recorded (Plain n) = Nothing
 any_recorded (Several n) = several_recorded n
 any_recorded (PublishOn n) = Nothing
+any_recorded (PublishOnEager n) = eager_recorded n
 any_recorded (Window n) = Nothing
 any_recorded (FlatMap n) = flat_recorded n
 any_recorded (FlatMapDelay n) = flat_delay_recorded n
@@ -116,6 +125,7 @@ any_ended (Source n) = false
 any_ended (Plain n) = plain_ended n
 any_ended (Several n) = several_ended n
 any_ended (PublishOn n) = publish_ended n
+any_ended (PublishOnEager n) = eager_ended n
 any_ended (Window n) = window_ended n
 any_ended (FlatMap n) = flat_ended n
 any_ended (FlatMapDelay n) = flat_delay_ended n
@@ -127,6 +137,7 @@ any_done (Source n) i = false
 any_done (Plain n) i = false
 any_done (Several n) i = several_done n i
 any_done (PublishOn n) i = false
+any_done (PublishOnEager n) i = eager_done n i
 any_done (Window n) i = window_done n i
 any_done (FlatMap n) i = flat_done n i
 any_done (FlatMapDelay n) i = flat_delay_done n i
@@ -138,6 +149,7 @@ any_counted (Source n) taken sent = source_counted n taken sent
 any_counted (Plain n) taken sent = plain_counted n taken sent
 any_counted (Several n) taken sent = several_counted n taken sent
 any_counted (PublishOn n) taken sent = publish_counted n taken sent
+any_counted (PublishOnEager n) taken sent = IsEagerCounted n taken sent
 any_counted (Window n) taken sent = CountsItems n taken sent
 any_counted (FlatMap n) taken sent = IsGoing n taken sent
 any_counted (FlatMapDelay n) taken sent = flat_delay_counted n taken sent
@@ -149,6 +161,7 @@ any_wanted (Source n) i a s = 0
 any_wanted (Plain n) i a s = plain_wanted n i a s
 any_wanted (Several n) i a s = several_wanted n i a s
 any_wanted (PublishOn n) i a s = publish_wanted n i a s
+any_wanted (PublishOnEager n) i a s = eager_wanted n i a s
 any_wanted (Window n) i a s = window_wanted n i a s
 any_wanted (FlatMap n) i a s = flat_wanted n i a s
 any_wanted (FlatMapDelay n) i a s = flat_delay_wanted n i a s
@@ -160,6 +173,7 @@ any_popped (Source a) s (Source b) = source_popped a s b
 any_popped (Plain a) s (Plain b) = plain_popped a s b
 any_popped (Several a) s (Several b) = several_popped a s b
 any_popped (PublishOn a) s (PublishOn b) = publish_popped a s b
+any_popped (PublishOnEager a) s (PublishOnEager b) = eager_popped a s b
 any_popped (Window a) s (Window b) = IsPoppedWindow a s b
 any_popped (FlatMap a) s (FlatMap b) = flat_popped a s b
 any_popped (FlatMapDelay a) s (FlatMapDelay b) = flat_delay_popped a s b
@@ -172,6 +186,7 @@ any_reads (Source n) = source_reads n
 any_reads (Plain n) = None
 any_reads (Several n) = None
 any_reads (PublishOn n) = None
+any_reads (PublishOnEager n) = None
 any_reads (Window n) = None
 any_reads (FlatMap n) = None
 any_reads (FlatMapDelay n) = None
@@ -183,6 +198,7 @@ any_rooms (Source n) = source_rooms n
 any_rooms (Plain n) = false
 any_rooms (Several n) = false
 any_rooms (PublishOn n) = false
+any_rooms (PublishOnEager n) = false
 any_rooms (Window n) = false
 any_rooms (FlatMap n) = false
 any_rooms (FlatMapDelay n) = false
@@ -194,6 +210,7 @@ any_pop_allocates a (Source n) = source_pop_allocates a n
 any_pop_allocates a (Plain n) = false
 any_pop_allocates a (Several n) = false
 any_pop_allocates a (PublishOn n) = false
+any_pop_allocates a (PublishOnEager n) = false
 any_pop_allocates a (Window n) = false
 any_pop_allocates a (FlatMap n) = false
 any_pop_allocates a (FlatMapDelay n) = false
@@ -205,6 +222,7 @@ any_signal_allocates a (Source n) = false
 any_signal_allocates a (Plain n) = plain_allocates a n
 any_signal_allocates a (Several n) = false
 any_signal_allocates a (PublishOn n) = false
+any_signal_allocates a (PublishOnEager n) = false
 any_signal_allocates a (Window n) = true
 any_signal_allocates a (FlatMap n) = true
 any_signal_allocates a (FlatMapDelay n) = true
@@ -216,6 +234,7 @@ any_step_allocates a (Source n) = false
 any_step_allocates a (Plain n) = false
 any_step_allocates a (Several n) = several_step_allocates a n
 any_step_allocates a (PublishOn n) = false
+any_step_allocates a (PublishOnEager n) = false
 any_step_allocates a (Window n) = false
 any_step_allocates a (FlatMap n) = true
 any_step_allocates a (FlatMapDelay n) = true

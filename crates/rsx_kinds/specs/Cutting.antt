@@ -7,7 +7,7 @@ use Rattle.rsx_queued.specs.declared.tail.Tail.{Tail}
 use Rattle.rsx_queued.specs.declared.tail.Tail.TheVariants.{Open as TailOpen, Completion, Failure, Taken}
 use Rattle.rsx_kinds.specs.Any.{TreeNode, any_machine}
 use Rattle.rsx_kinds.specs.declared.any_node.AnyNode.{AnyNode}
-use Rattle.rsx_kinds.specs.declared.any_node.AnyNode.TheVariants.{Source, Plain, Several, PublishOn, Window, FlatMap, FlatMapDelay, GroupBy}
+use Rattle.rsx_kinds.specs.declared.any_node.AnyNode.TheVariants.{Source, Plain, Several, PublishOn, PublishOnEager, Window, FlatMap, FlatMapDelay, GroupBy}
 use Rattle.rsx_kinds.specs.declared.source_node.SourceNode.{SourceNode}
 use Rattle.rsx_kinds.specs.declared.source_node.SourceNode.TheVariants.{Items, Range, Hub}
 
@@ -53,6 +53,7 @@ kind_held (Source n) = source_held n
 kind_held (Plain n) = None
 kind_held (Several n) = None
 kind_held (PublishOn n) = None
+kind_held (PublishOnEager n) = None
 kind_held (Window n) = None
 kind_held (FlatMap n) = None
 kind_held (FlatMapDelay n) = None
@@ -78,6 +79,7 @@ kind_read_to (Source n) = source_read_to n
 kind_read_to (Plain n) = None
 kind_read_to (Several n) = None
 kind_read_to (PublishOn n) = None
+kind_read_to (PublishOnEager n) = None
 kind_read_to (Window n) = None
 kind_read_to (FlatMap n) = None
 kind_read_to (FlatMapDelay n) = None

@@ -18,7 +18,7 @@ use Rattle.rsx_queued.specs.Queued.{ended_in, reads_in}
 use Rattle.rsx_queued.specs.Sender.{sender_ends}
 use Rattle.rsx_kinds.specs.Several.{several_comes_out}
 use Rattle.rsx_kinds.specs.Source.{source_comes_out, source_reads}
-use Rattle.rsx_kinds.specs.declared.any_node.AnyNode.TheVariants.{Source, Plain, Several, PublishOn, Window, FlatMap, FlatMapDelay, GroupBy}
+use Rattle.rsx_kinds.specs.declared.any_node.AnyNode.TheVariants.{Source, Plain, Several, PublishOn, PublishOnEager, Window, FlatMap, FlatMapDelay, GroupBy}
 use Rattle.rsx_kinds.specs.declared.several_node.SeveralNode.{SeveralNode}
 use Rattle.rsx_kinds.specs.declared.several_node.SeveralNode.TheVariants.{Concat, Merge, MergeDelay, Zip, Latest}
 use Rattle.rsx_kinds.specs.declared.source_node.SourceNode.{SourceNode}
@@ -50,6 +50,8 @@ kind_local m (Plain n) hubs others [] k a = refl
 kind_local m (Plain n) hubs others (v ∷ vs) k a = refl
 kind_local m (PublishOn n) hubs others [] k a = refl
 kind_local m (PublishOn n) hubs others (v ∷ vs) k a = refl
+kind_local m (PublishOnEager n) hubs others [] k a = refl
+kind_local m (PublishOnEager n) hubs others (v ∷ vs) k a = refl
 kind_local m (Window n) hubs others [] k a = refl
 kind_local m (Window n) hubs others (v ∷ vs) k a = refl
 kind_local m (FlatMap n) hubs others [] k a = refl
@@ -142,6 +144,7 @@ any_reads_on m (Direct (Source (Range n))) items taken others r holds reads reac
 any_reads_on m (Direct (Plain n)) items taken others r holds reads reached = cc
 any_reads_on m (Direct (Several n)) items taken others r holds reads reached = cc
 any_reads_on m (Direct (PublishOn n)) items taken others r holds reads reached = cc
+any_reads_on m (Direct (PublishOnEager n)) items taken others r holds reads reached = cc
 any_reads_on m (Direct (Window n)) items taken others r holds reads reached = cc
 any_reads_on m (Direct (FlatMap n)) items taken others r holds reads reached = cc
 any_reads_on m (Direct (FlatMapDelay n)) items taken others r holds reads reached = cc
@@ -173,6 +176,7 @@ any_reads_ended m (Direct (Source (Range n))) items e k sent holds taken = cc
 any_reads_ended m (Direct (Plain n)) items e k sent holds taken = cc
 any_reads_ended m (Direct (Several n)) items e k sent holds taken = cc
 any_reads_ended m (Direct (PublishOn n)) items e k sent holds taken = cc
+any_reads_ended m (Direct (PublishOnEager n)) items e k sent holds taken = cc
 any_reads_ended m (Direct (Window n)) items e k sent holds taken = cc
 any_reads_ended m (Direct (FlatMap n)) items e k sent holds taken = cc
 any_reads_ended m (Direct (FlatMapDelay n)) items e k sent holds taken = cc
@@ -200,6 +204,7 @@ any_reads_counted (Direct (Source (Range n))) items r holds reads = cc
 any_reads_counted (Direct (Plain n)) items r holds reads = cc
 any_reads_counted (Direct (Several n)) items r holds reads = cc
 any_reads_counted (Direct (PublishOn n)) items r holds reads = cc
+any_reads_counted (Direct (PublishOnEager n)) items r holds reads = cc
 any_reads_counted (Direct (Window n)) items r holds reads = cc
 any_reads_counted (Direct (FlatMap n)) items r holds reads = cc
 any_reads_counted (Direct (FlatMapDelay n)) items r holds reads = cc
@@ -218,6 +223,7 @@ any_reads_still (Direct (Source (Range n))) r reads = refl
 any_reads_still (Direct (Plain n)) r reads = refl
 any_reads_still (Direct (Several n)) r reads = refl
 any_reads_still (Direct (PublishOn n)) r reads = refl
+any_reads_still (Direct (PublishOnEager n)) r reads = refl
 any_reads_still (Direct (Window n)) r reads = refl
 any_reads_still (Direct (FlatMap n)) r reads = refl
 any_reads_still (Direct (FlatMapDelay n)) r reads = refl

@@ -10,6 +10,7 @@ use Rattle.rsx_kinds.specs.Several.{several_counted, several_ended, several_reco
 use Rattle.rsx_kinds.specs.declared.kind.SeveralKind.{SeveralKind}
 use Rattle.rsx_kinds.specs.declared.several_node.SeveralNode.{SeveralNode}
 use Rattle.rsx_queued.specs.Input.{fresh_input}
+use Rattle.rsx_queued.specs.Inputs.{picked}
 use Rattle.rsx_merging.specs.PublishOn.{publish_comes_out, publish_counted}
 use Rattle.rsx_merging.specs.declared.publish_on_node.PublishOnNode.{PublishOnNode}
 use Rattle.rsx_window.specs.Window.{GivesWindows, CountsItems}
@@ -17,6 +18,10 @@ use Rattle.rsx_window.specs.declared.node.WindowNode.{WindowNode}
 use Rattle.rsx_queued.specs.declared.output.Output.TheVariants.{Empty}
 use Rattle.rsx_delayed.specs.FlatMapDelay.{GivesFlatMapDelay, flat_delay_counted}
 use Rattle.rsx_delayed.specs.declared.flat_map_delay_node.FlatMapDelayNode.{FlatMapDelayNode}
+use Rattle.rsx_delayed.specs.PublishOnEager.{IsEagerCounted, eager_comes_out}
+use Rattle.rsx_delayed.specs.declared.publish_on_eager_node.Chosen.TheVariants as Chosen
+use Rattle.rsx_delayed.specs.declared.publish_on_eager_node.PublishOnEagerNode.{PublishOnEagerNode}
+use Rattle.rsx_values.specs.Eager.{eager_of}
 use Rattle.rsx_merging.specs.FlatMap.{GivesFlatMap, IsGoing}
 use Rattle.rsx_merging.specs.declared.flat_map_node.FlatMapNode.{FlatMapNode}
 use Rattle.rsx_grouping.specs.GroupBy.{GivesGroups, group_counted, group_ended}
@@ -30,7 +35,7 @@ use Rattle.rsx_queued.specs.declared.tail.Tail.TheVariants.{Open}
 use Rattle.rsx_kinds.specs.Any.{TreeNode}
 use Rattle.rsx_kinds.specs.Crossings.{is_crossing}
 use Rattle.rsx_kinds.specs.declared.any_node.AnyNode.{AnyNode}
-use Rattle.rsx_kinds.specs.declared.any_node.AnyNode.TheVariants.{Plain, Several, PublishOn, Window, FlatMap, FlatMapDelay, GroupBy}
+use Rattle.rsx_kinds.specs.declared.any_node.AnyNode.TheVariants.{Plain, Several, PublishOn, PublishOnEager, Window, FlatMap, FlatMapDelay, GroupBy}
 
 -- a fresh plain operator as a node of any kind
 pub record IsPlain {T : Type 0} (g : Stage T) (n : AnyNode T) : Type 0 where
@@ -57,6 +62,16 @@ pub record IsPublishOn {T : Type 0} (capacity : ℕ) (n : AnyNode T) : Type 0 wh
   pub input : node.input ≡ fresh_input capacity
   pub fresh : (m : Meaning T) (inc : Incoming T) (further : Note) → publish_comes_out m node inc further ≡ quiet_at further inc.first
   pub counted : publish_counted node (0 ∷ []) 0
+
+-- a fresh `publishOnEager` as a node of any kind
+pub record IsPublishOnEager {T : Type 0} (capacity : ℕ) (n : AnyNode T) : Type 0 where
+  pub node : PublishOnEagerNode T
+  pub is : n ≡ PublishOnEager node
+  pub input : node.held.input ≡ fresh_input capacity
+  pub chosen : node.chosen ≡ Chosen.Nothing
+  pub fresh : (m : Meaning T) (inc : Incoming T) (further : Note) → eager_comes_out m node inc further ≡ picked further (λ cs. eager_of cs inc.first)
+  pub counted : IsEagerCounted node (0 ∷ []) 0
+  pub choices : node.choices ≡ []
 
 -- a fresh `window` as a node of any kind
 pub record IsWindow {T : Type 0} (size : ℕ) (gs : List (Stage T)) (n : AnyNode T) : Type 0 where

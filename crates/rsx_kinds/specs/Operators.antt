@@ -41,6 +41,7 @@ any_operator (any.Source n) = source_operator n
 any_operator (any.Plain n) = plain_operator n.state
 any_operator (any.Several n) = several_operator n
 any_operator (any.PublishOn n) = operator.PublishOn
+any_operator (any.PublishOnEager n) = operator.PublishOnEager
 any_operator (any.Window n) = operator.Window
 any_operator (any.FlatMap n) = operator.FlatMap
 any_operator (any.FlatMapDelay n) = operator.FlatMapDelay

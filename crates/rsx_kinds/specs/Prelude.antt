@@ -7,7 +7,7 @@ pub use Rattle.rsx_kinds.specs.Any.{TreeNode, any_comes_out, any_counted, any_do
 pub use Rattle.rsx_kinds.specs.Built.{AllUnrecorded, AreBegun, AreBuilt, IsBuilt, IsBuiltOver, IsPlainOver, IsUnrecorded, StandAt, WantsOfEach, counts_of, first_wants, fresh_beside, fresh_edge, fresh_edges, fresh_wants, join_at, joins_now, new_joins, new_joins_of, prefetch_of, starts_ended, wants_beside}
 pub use Rattle.rsx_kinds.specs.Crossings.{ArePlaced, IsAlone, IsPlaced, IsPlacedOver, Placed, crossings, differ, fresh_crossings, is_crossing, opposite, placed, placed_beside, placed_here, placed_in}
 pub use Rattle.rsx_kinds.specs.Kind.{GivesKind, IsWithin, first_wanted, joined, recorded_first}
-pub use Rattle.rsx_kinds.specs.Made.{IsCrossed, IsFlatMap, IsFlatMapDelay, IsGroupBy, IsInFront, IsOver, IsOverOne, IsPlain, IsPublishOn, IsQueuedRoot, IsSeveral, IsWindow}
+pub use Rattle.rsx_kinds.specs.Made.{IsCrossed, IsFlatMap, IsFlatMapDelay, IsGroupBy, IsInFront, IsOver, IsOverOne, IsPlain, IsPublishOn, IsPublishOnEager, IsQueuedRoot, IsSeveral, IsWindow}
 pub use Rattle.rsx_kinds.specs.Several.{several_comes_out, several_counted, several_done, several_ended, several_popped, several_recorded, several_takes, several_waiting, several_wanted}
 pub use Rattle.rsx_kinds.specs.Source.{source_comes_out, source_counted, source_popped, source_reads, source_waiting}
 pub use Rattle.rsx_kinds.specs.declared.any_node.AnyNode.{AnyNode}
@@ -17,6 +17,8 @@ pub use Rattle.rsx_kinds.specs.declared.several_node.SeveralNode.{SeveralNode}
 pub use Rattle.rsx_kinds.specs.declared.source_node.SourceNode.{SourceNode}
 pub use Rattle.rsx_delayed.specs.FlatMapDelay.{GivesFlatMapDelay, flat_delay_comes_out, flat_delay_counted, flat_delay_done, flat_delay_ended, flat_delay_popped, flat_delay_recorded, flat_delay_takes, flat_delay_waiting, flat_delay_wanted}
 pub use Rattle.rsx_delayed.specs.declared.flat_map_delay_node.FlatMapDelayNode.{FlatMapDelayNode}
+pub use Rattle.rsx_delayed.specs.PublishOnEager.{IsEagerCounted, eager_comes_out, eager_done, eager_ended, eager_popped, eager_recorded, eager_takes, eager_waiting, eager_wanted}
+pub use Rattle.rsx_delayed.specs.declared.publish_on_eager_node.PublishOnEagerNode.{PublishOnEagerNode}
 pub use Rattle.rsx_merging.specs.FlatMap.{GivesFlatMap, IsGoing, flat_comes_out, flat_done, flat_ended, flat_popped, flat_recorded, flat_takes, flat_waiting, flat_wanted}
 pub use Rattle.rsx_merging.specs.PublishOn.{publish_comes_out, publish_counted, publish_ended, publish_popped, publish_takes, publish_waiting, publish_wanted}
 pub use Rattle.rsx_merging.specs.declared.flat_map_node.FlatMapNode.{FlatMapNode}
@@ -29,7 +31,7 @@ pub use Rattle.rsx_model.specs.declared.check.TheConstants.{MOST_CONCURRENCY, MO
 pub use Rattle.rsx_model.specs.declared.expr.Expr.{Expr}
 pub use Rattle.rsx_model.specs.declared.expr.Expr.TheFolds.{fold_out-Expr, map-Expr}
 pub use Rattle.rsx_model.specs.declared.expr.Expr.TheOpen.{Expr-F}
-pub use Rattle.rsx_model.specs.declared.expr.Expr.TheViews.{Flat, FlatDelay, Group, On, outs-Flat, outs-FlatDelay, outs-Group, outs-Hub, outs-Items, outs-On, outs-Range}
+pub use Rattle.rsx_model.specs.declared.expr.Expr.TheViews.{Flat, FlatDelay, Group, On, OnEager, outs-Flat, outs-FlatDelay, outs-Group, outs-Hub, outs-Items, outs-On, outs-OnEager, outs-Range}
 pub use Rattle.rsx_plain.specs.Node.{plain_comes_out, plain_counted, plain_ended, plain_popped, plain_takes, plain_waiting, start_slot}
 pub use Rattle.rsx_plain.specs.declared.node.PlainNode.{PlainNode}
 pub use Rattle.rsx_queued.specs.Inputs.{picked}

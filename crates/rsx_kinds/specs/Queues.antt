@@ -4,6 +4,7 @@ use Rattle.std.specs.Prelude.{ℕ, ◌+◌, length, Option, Some, None}
 use Rattle.rsx_combining.specs.Latest.{latest_queued}
 use Rattle.rsx_combining.specs.Zip.{zip_queued}
 use Rattle.rsx_delayed.specs.MergeDelay.{delayed_queued}
+use Rattle.rsx_delayed.specs.PublishOnEager.{eager_queued}
 use Rattle.rsx_grouping.specs.Rows.{waiting_after as grouped_after}
 use Rattle.rsx_kinds.specs.Any.{TreeNode}
 use Rattle.rsx_kinds.specs.declared.any_node.AnyNode.{AnyNode}
@@ -31,6 +32,7 @@ any_queued (any.Source n) i = None
 any_queued (any.Plain n) i = None
 any_queued (any.Several n) i = several_queued n i
 any_queued (any.PublishOn n) i = publish_queued n i
+any_queued (any.PublishOnEager n) i = eager_queued n i
 any_queued (any.Window n) i = None
 any_queued (any.FlatMap n) i = None
 any_queued (any.FlatMapDelay n) i = None
@@ -55,6 +57,7 @@ any_lanes (any.Source n) = None
 any_lanes (any.Plain n) = None
 any_lanes (any.Several n) = None
 any_lanes (any.PublishOn n) = None
+any_lanes (any.PublishOnEager n) = None
 any_lanes (any.Window n) = None
 any_lanes (any.FlatMap n) = Some (waiting_after 0 n.lanes)
 any_lanes (any.FlatMapDelay n) = Some (waiting_after 0 n.flat.lanes)

@@ -5,12 +5,13 @@ use Rattle.rsx_kinds.specs.Several.{several_comes_out, several_counted, several_
 use Rattle.rsx_kinds.specs.declared.several_node.SeveralNode.{SeveralNode}
 use Rattle.rsx_kinds.specs.declared.several_node.SeveralNode.TheVariants.{Concat, Merge, MergeDelay, Zip, Latest}
 use Rattle.rsx_merging.proofs.Rests.{flat_rests}
+use Rattle.rsx_delayed.proofs.EagerRests.{eager_rests}
 use Rattle.rsx_delayed.proofs.FlatRests.{flat_delay_rests}
 use Rattle.rsx_grouping.proofs.Rests.{group_rests}
 use Rattle.rsx_kinds.specs.Any.{TreeNode, any_machine, kind_machine}
 use Rattle.rsx_kinds.specs.Laws.{any_shows}
 use Rattle.rsx_kinds.specs.declared.any_node.AnyNode.{AnyNode}
-use Rattle.rsx_kinds.specs.declared.any_node.AnyNode.TheVariants.{Source, Plain, Several, PublishOn, Window, FlatMap, FlatMapDelay, GroupBy}
+use Rattle.rsx_kinds.specs.declared.any_node.AnyNode.TheVariants.{Source, Plain, Several, PublishOn, PublishOnEager, Window, FlatMap, FlatMapDelay, GroupBy}
 use Rattle.rsx_kinds.specs.ConcatRests.{concat_rests}
 use Rattle.rsx_kinds.specs.LatestRests.{latest_rests}
 use Rattle.rsx_kinds.specs.MergeRests.{merge_delay_rests, merge_rests}
@@ -33,6 +34,7 @@ kind_rests m (Source n) taken asked sent inc still counted waits more within stu
 kind_rests m (Plain n) taken asked sent inc still counted waits more within stuck none behind = plain_rests m n taken asked sent inc still counted waits more within none
 kind_rests m (Several n) taken asked sent inc still counted waits more within stuck none behind = several_rests m n taken asked sent inc still counted waits more within stuck none
 kind_rests m (PublishOn n) taken asked sent inc still counted waits more within stuck none behind = publish_rests m n taken asked sent inc still counted waits more within none
+kind_rests m (PublishOnEager n) taken asked sent inc still counted waits more within stuck none behind = eager_rests m n taken asked sent inc counted waits more within stuck.0 (λ c at open_still takes wants. none 0 c at open_still takes wants)
 kind_rests m (Window n) taken asked sent inc still counted waits more within stuck none behind = window_rests m n taken asked sent inc still counted waits more within none
 kind_rests m (FlatMap n) taken asked sent inc still counted waits more within stuck none behind = flat_rests m n taken asked sent inc counted waits more within stuck.0 (λ c at alive wants. none 0 c at alive (λ f. refl) wants)
 kind_rests m (FlatMapDelay n) taken asked sent inc still counted waits more within stuck none behind = flat_delay_rests m n taken asked sent inc counted waits more within stuck.0 (λ c at alive wants. none 0 c at alive (λ f. refl) wants)

@@ -8,7 +8,7 @@ use Rattle.rsx_kinds.specs.Laws.{any_shows}
 use Rattle.rsx_kinds.specs.SenderRests.{sender_full}
 use Rattle.rsx_kinds.specs.Source.{source_reads, source_rooms, source_waiting}
 use Rattle.rsx_kinds.specs.declared.any_node.AnyNode.{AnyNode}
-use Rattle.rsx_kinds.specs.declared.any_node.AnyNode.TheVariants.{Source, Plain, Several, PublishOn, Window, FlatMap, FlatMapDelay, GroupBy}
+use Rattle.rsx_kinds.specs.declared.any_node.AnyNode.TheVariants.{Source, Plain, Several, PublishOn, PublishOnEager, Window, FlatMap, FlatMapDelay, GroupBy}
 use Rattle.rsx_kinds.specs.declared.source_node.SourceNode.{SourceNode}
 use Rattle.rsx_kinds.specs.declared.source_node.SourceNode.TheVariants.{Items, Range, Hub}
 use Rattle.rsx_sources.specs.Prelude.{Reading, Meaning}
@@ -25,6 +25,7 @@ kind_full m (Source n) r reads full less none = source_full m n r reads full les
 kind_full m (Plain n) r reads full less none = cc
 kind_full m (Several n) r reads full less none = cc
 kind_full m (PublishOn n) r reads full less none = cc
+kind_full m (PublishOnEager n) r reads full less none = cc
 kind_full m (Window n) r reads full less none = cc
 kind_full m (FlatMap n) r reads full less none = cc
 kind_full m (FlatMapDelay n) r reads full less none = cc

@@ -4,7 +4,7 @@ ghost use Rattle.std.specs.Prelude.{◌≡◌};
 
 use crate::SeveralNode;
 use crate::source_node::SourceNode;
-use rsx_delayed::FlatMapDelayNode;
+use rsx_delayed::{FlatMapDelayNode, PublishOnEagerNode};
 use rsx_grouping::GroupByNode;
 use rsx_merging::{FlatMapNode, PublishOnNode};
 use rsx_plain::PlainNode;
@@ -24,6 +24,8 @@ pub enum AnyNode<T> {
     Several(SeveralNode<T>),
     /// `publishOn`: its one input, from a queue.
     PublishOn(PublishOnNode<T>),
+    /// `publishOnEager`: the same, but a failure may overtake items.
+    PublishOnEager(PublishOnEagerNode<T>),
     /// `window`: its one input in windows, each through a chain of its own.
     Window(WindowNode<T>),
     /// `flatMap`: each item of its one input made a lane of its own, and the lanes merged.
@@ -94,6 +96,7 @@ impl<T: Drop> Machine for AnyNode<T> {
             AnyNode::Plain(node) => node.front(),
             AnyNode::Several(node) => node.front(),
             AnyNode::PublishOn(node) => node.front(),
+            AnyNode::PublishOnEager(node) => node.front(),
             AnyNode::Window(node) => node.front(),
             AnyNode::FlatMap(node) => node.front(),
             AnyNode::FlatMapDelay(node) => node.front(),
@@ -120,6 +123,7 @@ impl<T: Drop> Machine for AnyNode<T> {
             AnyNode::Plain(node) => node.pop_front(alloc, ops),
             AnyNode::Several(node) => node.pop_front(alloc, ops),
             AnyNode::PublishOn(node) => node.pop_front(alloc, ops),
+            AnyNode::PublishOnEager(node) => node.pop_front(alloc, ops),
             AnyNode::Window(node) => node.pop_front(alloc, ops),
             AnyNode::FlatMap(node) => node.pop_front(alloc, ops),
             AnyNode::FlatMapDelay(node) => node.pop_front(alloc, ops),
@@ -135,6 +139,7 @@ impl<T: Drop> Machine for AnyNode<T> {
             AnyNode::Plain(node) => node.put_back(signal),
             AnyNode::Several(node) => node.put_back(signal),
             AnyNode::PublishOn(node) => node.put_back(signal),
+            AnyNode::PublishOnEager(node) => node.put_back(signal),
             AnyNode::Window(node) => node.put_back(signal),
             AnyNode::FlatMap(node) => node.put_back(signal),
             AnyNode::FlatMapDelay(node) => node.put_back(signal),
@@ -149,6 +154,7 @@ impl<T: Drop> Machine for AnyNode<T> {
             AnyNode::Plain(node) => node.has_ended(),
             AnyNode::Several(node) => node.has_ended(),
             AnyNode::PublishOn(node) => node.has_ended(),
+            AnyNode::PublishOnEager(node) => node.has_ended(),
             AnyNode::Window(node) => node.has_ended(),
             AnyNode::FlatMap(node) => node.has_ended(),
             AnyNode::FlatMapDelay(node) => node.has_ended(),
@@ -163,6 +169,7 @@ impl<T: Drop> Machine for AnyNode<T> {
             AnyNode::Plain(node) => node.can_take(input, front),
             AnyNode::Several(node) => node.can_take(input, front),
             AnyNode::PublishOn(node) => node.can_take(input, front),
+            AnyNode::PublishOnEager(node) => node.can_take(input, front),
             AnyNode::Window(node) => node.can_take(input, front),
             AnyNode::FlatMap(node) => node.can_take(input, front),
             AnyNode::FlatMapDelay(node) => node.can_take(input, front),
@@ -192,6 +199,7 @@ impl<T: Drop> Machine for AnyNode<T> {
             AnyNode::Plain(node) => node.on_signal(alloc, ops, input, signal),
             AnyNode::Several(node) => node.on_signal(alloc, ops, input, signal),
             AnyNode::PublishOn(node) => node.on_signal(alloc, ops, input, signal),
+            AnyNode::PublishOnEager(node) => node.on_signal(alloc, ops, input, signal),
             AnyNode::Window(node) => node.on_signal(alloc, ops, input, signal),
             AnyNode::FlatMap(node) => node.on_signal(alloc, ops, input, signal),
             AnyNode::FlatMapDelay(node) => node.on_signal(alloc, ops, input, signal),
@@ -206,6 +214,7 @@ impl<T: Drop> Machine for AnyNode<T> {
             AnyNode::Plain(node) => node.pop_item(alloc, ops),
             AnyNode::Several(node) => node.pop_item(alloc, ops),
             AnyNode::PublishOn(node) => node.pop_item(alloc, ops),
+            AnyNode::PublishOnEager(node) => node.pop_item(alloc, ops),
             AnyNode::Window(node) => node.pop_item(alloc, ops),
             AnyNode::FlatMap(node) => node.pop_item(alloc, ops),
             AnyNode::FlatMapDelay(node) => node.pop_item(alloc, ops),
@@ -220,6 +229,7 @@ impl<T: Drop> Machine for AnyNode<T> {
             AnyNode::Plain(node) => node.pass(alloc, ops, input, item),
             AnyNode::Several(node) => node.pass(alloc, ops, input, item),
             AnyNode::PublishOn(node) => node.pass(alloc, ops, input, item),
+            AnyNode::PublishOnEager(node) => node.pass(alloc, ops, input, item),
             AnyNode::Window(node) => node.pass(alloc, ops, input, item),
             AnyNode::FlatMap(node) => node.pass(alloc, ops, input, item),
             AnyNode::FlatMapDelay(node) => node.pass(alloc, ops, input, item),
@@ -233,6 +243,7 @@ impl<T: Drop> Machine for AnyNode<T> {
             AnyNode::Plain(node) => node.hub(),
             AnyNode::Several(node) => node.hub(),
             AnyNode::PublishOn(node) => node.hub(),
+            AnyNode::PublishOnEager(node) => node.hub(),
             AnyNode::Window(node) => node.hub(),
             AnyNode::FlatMap(node) => node.hub(),
             AnyNode::FlatMapDelay(node) => node.hub(),
@@ -246,6 +257,7 @@ impl<T: Drop> Machine for AnyNode<T> {
             AnyNode::Plain(node) => node.has_room(),
             AnyNode::Several(node) => node.has_room(),
             AnyNode::PublishOn(node) => node.has_room(),
+            AnyNode::PublishOnEager(node) => node.has_room(),
             AnyNode::Window(node) => node.has_room(),
             AnyNode::FlatMap(node) => node.has_room(),
             AnyNode::FlatMapDelay(node) => node.has_room(),
@@ -268,6 +280,7 @@ impl<T: Drop> Machine for AnyNode<T> {
             AnyNode::Plain(node) => node.on_published(signal),
             AnyNode::Several(node) => node.on_published(signal),
             AnyNode::PublishOn(node) => node.on_published(signal),
+            AnyNode::PublishOnEager(node) => node.on_published(signal),
             AnyNode::Window(node) => node.on_published(signal),
             AnyNode::FlatMap(node) => node.on_published(signal),
             AnyNode::FlatMapDelay(node) => node.on_published(signal),
@@ -281,6 +294,7 @@ impl<T: Drop> Machine for AnyNode<T> {
             AnyNode::Source(_) | AnyNode::Plain(_) | AnyNode::PublishOn(_) | AnyNode::Window(_) =>
                 false,
             AnyNode::Several(node) => node.can_pick(input, asked, sent),
+            AnyNode::PublishOnEager(node) => node.can_pick(input, asked, sent),
             AnyNode::FlatMap(node) => node.can_pick(input, asked, sent),
             AnyNode::FlatMapDelay(node) => node.can_pick(input, asked, sent),
             AnyNode::GroupBy(node) => node.can_pick(input, asked, sent),
@@ -293,6 +307,7 @@ impl<T: Drop> Machine for AnyNode<T> {
             AnyNode::Source(_) | AnyNode::Plain(_) | AnyNode::PublishOn(_) | AnyNode::Window(_) =>
                 None,
             AnyNode::Several(node) => node.next_pick(asked, sent),
+            AnyNode::PublishOnEager(node) => node.next_pick(asked, sent),
             AnyNode::FlatMap(node) => node.next_pick(asked, sent),
             AnyNode::FlatMapDelay(node) => node.next_pick(asked, sent),
             AnyNode::GroupBy(node) => node.next_pick(asked, sent),
@@ -311,6 +326,7 @@ impl<T: Drop> Machine for AnyNode<T> {
             AnyNode::Source(_) | AnyNode::Plain(_) | AnyNode::PublishOn(_) | AnyNode::Window(_) =>
                 Err(NotMade::NotEnabled),
             AnyNode::Several(node) => node.on_pick(alloc, ops, input, asked, sent),
+            AnyNode::PublishOnEager(node) => node.on_pick(alloc, ops, input, asked, sent),
             AnyNode::FlatMap(node) => node.on_pick(alloc, ops, input, asked, sent),
             AnyNode::FlatMapDelay(node) => node.on_pick(alloc, ops, input, asked, sent),
             AnyNode::GroupBy(node) => node.on_pick(alloc, ops, input, asked, sent),
@@ -323,6 +339,7 @@ impl<T: Drop> Machine for AnyNode<T> {
             AnyNode::Source(_)
             | AnyNode::Plain(_)
             | AnyNode::PublishOn(_)
+            | AnyNode::PublishOnEager(_)
             | AnyNode::Window(_)
             | AnyNode::FlatMap(_)
             | AnyNode::FlatMapDelay(_)
@@ -343,6 +360,7 @@ impl<T: Drop> Machine for AnyNode<T> {
             AnyNode::Source(_)
             | AnyNode::Plain(_)
             | AnyNode::PublishOn(_)
+            | AnyNode::PublishOnEager(_)
             | AnyNode::Window(_)
             | AnyNode::FlatMap(_)
             | AnyNode::FlatMapDelay(_)
@@ -358,6 +376,7 @@ impl<T: Drop> Machine for AnyNode<T> {
             AnyNode::Plain(node) => node.want(input, asked, sent),
             AnyNode::Several(node) => node.want(input, asked, sent),
             AnyNode::PublishOn(node) => node.want(input, asked, sent),
+            AnyNode::PublishOnEager(node) => node.want(input, asked, sent),
             AnyNode::Window(node) => node.want(input, asked, sent),
             AnyNode::FlatMap(node) => node.want(input, asked, sent),
             AnyNode::FlatMapDelay(node) => node.want(input, asked, sent),
@@ -370,6 +389,7 @@ impl<T: Drop> Machine for AnyNode<T> {
             AnyNode::Source(_) | AnyNode::Plain(_) | AnyNode::PublishOn(_) | AnyNode::Window(_) =>
                 Ok(Note::Nothing),
             AnyNode::Several(node) => node.note(alloc),
+            AnyNode::PublishOnEager(node) => node.note(alloc),
             AnyNode::FlatMap(node) => node.note(alloc),
             AnyNode::FlatMapDelay(node) => node.note(alloc),
             AnyNode::GroupBy(node) => node.note(alloc),
@@ -391,6 +411,7 @@ impl<T: Drop> Machine for AnyNode<T> {
             AnyNode::Plain(node) => node.residual(alloc, ops, inboxes, incoming),
             AnyNode::Several(node) => node.residual(alloc, ops, inboxes, incoming),
             AnyNode::PublishOn(node) => node.residual(alloc, ops, inboxes, incoming),
+            AnyNode::PublishOnEager(node) => node.residual(alloc, ops, inboxes, incoming),
             AnyNode::Window(node) => node.residual(alloc, ops, inboxes, incoming),
             AnyNode::FlatMap(node) => node.residual(alloc, ops, inboxes, incoming),
             AnyNode::FlatMapDelay(node) => node.residual(alloc, ops, inboxes, incoming),

@@ -16,6 +16,7 @@ pub(crate) fn operator_of_any<T: Drop>(node: &AnyNode<T>) -> Operator
         AnyNode::Plain(node) => operator_of_plain(&node.state),
         AnyNode::Several(node) => operator_of_several(node),
         AnyNode::PublishOn(_) => Operator::PublishOn,
+        AnyNode::PublishOnEager(_) => Operator::PublishOnEager,
         AnyNode::Window(_) => Operator::Window,
         AnyNode::FlatMap(_) => Operator::FlatMap,
         AnyNode::FlatMapDelay(_) => Operator::FlatMapDelay,

@@ -29,6 +29,7 @@ pub(crate) fn in_lanes_of<T: Drop>(node: &AnyNode<T>) -> Option<u64>
         | AnyNode::Plain(_)
         | AnyNode::Several(_)
         | AnyNode::PublishOn(_)
+        | AnyNode::PublishOnEager(_)
         | AnyNode::Window(_) => None,
     }
 }
@@ -40,6 +41,7 @@ pub(crate) fn queued_at_any<T: Drop>(node: &AnyNode<T>, input: u64) -> Option<u6
     match node {
         AnyNode::Several(node) => queued_at_several(node, input),
         AnyNode::PublishOn(node) => node.queued_at(input),
+        AnyNode::PublishOnEager(node) => node.queued_at(input),
         AnyNode::Source(_)
         | AnyNode::Plain(_)
         | AnyNode::Window(_)

@@ -8,11 +8,11 @@ ghost use Rattle.rsx_model.specs.declared.expr.Expr.TheVariants.{Items as ItemsO
 ghost use Rattle.rsx_kinds.specs.Built.{IsBuilt, AreBuilt, IsBuiltOver, IsPlainOver, starts_ended};
 ghost use Rattle.rsx_model.specs.Region.{region_of};
 ghost use Rattle.rsx_kinds.specs.Crossings.{ArePlaced, IsAlone, IsPlaced, IsPlacedOver, differ};
-ghost use Rattle.rsx_kinds.specs.Made.{IsCrossed, IsFlatMap, IsFlatMapDelay, IsGroupBy, IsInFront, IsOver, IsOverOne, IsPlain, IsPublishOn, IsSeveral, IsWindow};
+ghost use Rattle.rsx_kinds.specs.Made.{IsCrossed, IsFlatMap, IsFlatMapDelay, IsGroupBy, IsInFront, IsOver, IsOverOne, IsPlain, IsPublishOn, IsPublishOnEager, IsSeveral, IsWindow};
 ghost use Rattle.rsx_kinds.specs.Kind.{IsWithin};
 
 use crate::{AnyNode, Boxed, SeveralKind, SeveralNode, SourceNode, TreeNode};
-use rsx_delayed::FlatMapDelayNode;
+use rsx_delayed::{FlatMapDelayNode, PublishOnEagerNode};
 use rsx_grouping::GroupByNode;
 use rsx_hub::{Hub, HubLeaf};
 use rsx_merging::{FlatMapNode, PublishOnNode};
@@ -94,6 +94,11 @@ pub fn build<O: Ops>(
             let made = build(alloc, ops, input, hubs);
             let below = crossed(alloc, made, *worker != region_of(input))?;
             over_one(alloc, publish_on(alloc, *prefetch), below)
+        }
+        Expr::OnEager(worker, prefetch, input) => {
+            let made = build(alloc, ops, input, hubs);
+            let below = crossed(alloc, made, *worker != region_of(input))?;
+            over_one(alloc, publish_on_eager(alloc, *prefetch), below)
         }
     }
 }
@@ -233,6 +238,16 @@ fn publish_on<T: Drop>(alloc: Global, prefetch: u64) -> Result<AnyNode<T>, NoMem
 {
     let node = PublishOnNode::new(alloc, prefetch as usize)?;
     Ok(AnyNode::PublishOn(node))
+}
+
+/// A `publishOnEager` as a node of any kind.
+fn publish_on_eager<T: Drop>(alloc: Global, prefetch: u64) -> Result<AnyNode<T>, NoMemory>
+    requires positive { 1 ≤ prefetch }
+    requires within { prefetch ≤ MOST_PREFETCH }
+    ensures { IfOk result (λ n. IsPublishOnEager prefetch n) }
+{
+    let node = PublishOnEagerNode::new(alloc, prefetch as usize)?;
+    Ok(AnyNode::PublishOnEager(node))
 }
 
 /// A node of windows as a node of any kind.

@@ -1,8 +1,9 @@
 -- How operators over several inputs end: never by the failure of a bad request, where no input ends so.
 use Rattle.std.proofs.Common.{◌≢◌, ℕ, zero, suc, ◌+◌, ◌-◌, Bool, true, false, nat_eq, if◌then◌else◌, List, [], ◌∷◌, ◌++◌, map, Option, Some, None, option_map, option_and_then, slice_get, slice_set}
-use Rattle.rsx_values.specs.Prelude.{NonPositiveRequest, Ending, Open, Done, Failed, Signal, Next, Complete, Error, Stream, ending_signals, concat, unless_open, merge, merged, taken_ending, main_input, merged_lanes, merged_lanes_delay, InputLeft, Taken, numbered, is_failure, left_after, next_here, next_of, up_to_failure, rest_of, no_more, chosen_before, pick, all_latest, row_first, stops, behind_first, unless_chosen, walk, none_yet, combine_latest, items_of, shortest, ends_after, first_ending, ending_after, zip_ending, zip_rows, zip}
+use Rattle.rsx_values.specs.Prelude.{NonPositiveRequest, Ending, Open, Done, Failed, Signal, Next, Complete, Error, Stream, ending_signals, item_then, concat, unless_open, merge, merged, taken_ending, main_input, merged_lanes, merged_lanes_delay, InputLeft, Taken, numbered, is_failure, left_after, next_here, next_of, up_to_failure, rest_of, no_more, chosen_before, pick, all_latest, row_first, stops, behind_first, unless_chosen, walk, none_yet, combine_latest, items_of, shortest, ends_after, first_ending, ending_after, zip_ending, zip_rows, zip}
 use Rattle.rsx_types.specs.declared.signal.Cause.{Cause}
 use Rattle.rsx_values.specs.Delayed.{all_of, delayed_ending, ending_of, first_cause, goes_on, merge_delay, merged_delayed, pick_all, rest_of_all}
+use Rattle.rsx_values.specs.Eager.{eager, eager_of, failure_here}
 use Rattle.rsx_model.specs.Eval.{Meant, in_order}
 use Rattle.rsx_model.proofs.Unfold.{Each}
 
@@ -216,6 +217,29 @@ merged_lanes_fine cs vs e hs h = merged_fine _ (pick cs (numbered 0 vs ++ main_i
 
 pub merged_lanes_delay_fine : {T : Type 0} (cs : List ℕ) (vs : List (Stream T)) (e : Ending) → Each (λ (v : Stream T). Fine v.ending) vs → Fine e → AllFine (merged_lanes_delay cs vs e)
 merged_lanes_delay_fine cs vs e hs h = merged_delayed_fine _ (pick_all cs (numbered 0 vs ++ main_input e)) (pick_all_fine cs (numbered 0 vs ++ main_input e) (main_fine 0 vs e hs h))
+
+-- ---- publishOnEager
+
+failure_fine : (T : Type 0) (e : Ending) (cs : List ℕ) → Fine e → AllFine (failure_here {T = T} e cs)
+failure_fine T Open cs h = tt
+failure_fine T Done cs h = tt
+failure_fine T (Failed c) [] h = h
+failure_fine T (Failed c) (d ∷ cs) h = tt
+
+item_fine : {T : Type 0} (x : T) (o : Option (Stream T)) → AllFine o → AllFine (option_map (item_then x) o)
+item_fine x None h = tt
+item_fine x (Some v) h = h
+
+eager_fine : {T : Type 0} (cs : List ℕ) (xs : List T) (e : Ending) → Fine e → AllFine (eager cs xs e)
+eager_fine [] xs e h = h
+eager_fine (zero ∷ cs) [] e h = tt
+eager_fine (zero ∷ cs) (x ∷ xs) e h = item_fine x (eager cs xs e) (eager_fine cs xs e h)
+eager_fine {T} (suc zero ∷ cs) xs e h = failure_fine T e cs h
+eager_fine (suc (suc n) ∷ cs) xs e h = tt
+
+pub eager_values_fine : {T : Type 0} (cs : List ℕ) (o : Option (Stream T)) → AllFine o → AllFine (option_and_then (eager_of cs) o)
+eager_values_fine cs None h = tt
+eager_values_fine cs (Some v) h = eager_fine cs v.items v.ending h
 
 -- ---- combineLatest
 

@@ -8,7 +8,7 @@ use Rattle.std.proofs.lemmas.List.Elements.{All-get_or, All-head, All-tail}
 use Rattle.std.proofs.lemmas.Option.{slice_get_cases}
 use Rattle.std.proofs.lemmas.List.Folds.{list_any-append}
 use Rattle.std.proofs.lemmas.Bool.{eqb-true}
-use Rattle.rsx_values.specs.Prelude.{Note, Nothing, Picks, Ended, Function, Ending, Open, Done, Failed, Stage, Map, Filter, Take, Scan, Buffer, Distinct, Meaning, mapped_items, filtered_items, taken_items, accumulated_then, scanned_items, last_list, buffered_items, new_key_then, distinct_items, plain, chained, listed, range_items, Stream, ended_by, item_then, answer_then, kept_then, cut_by, concat, merge, merge_delay, list_then, expanded_items, flat_lane, flat_map, flat_map_delay, placed, see, keyed_then, keyed_items, lane_ending, of_key, group_lane, group_lanes, first_seen, group_by, last_window, windows, windows_and_main, window, combine_latest, zip}
+use Rattle.rsx_values.specs.Prelude.{Note, Nothing, Picks, Ended, Function, Ending, Open, Done, Failed, Stage, Map, Filter, Take, Scan, Buffer, Distinct, Meaning, mapped_items, filtered_items, taken_items, accumulated_then, scanned_items, last_list, buffered_items, new_key_then, distinct_items, plain, chained, listed, range_items, Stream, ended_by, item_then, answer_then, kept_then, cut_by, concat, merge, merge_delay, eager_of, list_then, expanded_items, flat_lane, flat_map, flat_map_delay, placed, see, keyed_then, keyed_items, lane_ending, of_key, group_lane, group_lanes, first_seen, group_by, last_window, windows, windows_and_main, window, combine_latest, zip}
 use Rattle.rsx_model.specs.declared.expr.Expr.{Expr}
 use Rattle.rsx_model.specs.declared.expr.Expr.TheOpen.{Expr-F}
 use Rattle.rsx_model.specs.declared.expr.Expr.TheOpen as layer
@@ -19,7 +19,7 @@ use Rattle.rsx_model.specs.Eval.{Environment, Meant, meant, in_order, node_value
 use Rattle.rsx_model.specs.Laws.{folded_in, folded, ScanFolds, joined, IsCut, given_lists, BufferCuts, DistinctKeepsFirst, NoBadRequest}
 use Rattle.rsx_values.proofs.Steps.{buffered_full, buffered_more}
 use Rattle.rsx_model.proofs.Unfold.{Each, by_children, children-map, value_out}
-use Rattle.rsx_model.proofs.Endings.{Fine, AllFine, FineMeant, in_order_fine, concat_values_fine, merge_values_fine, merge_delay_values_fine, zip_values_fine, latest_values_fine, merged_lanes_fine, merged_lanes_delay_fine}
+use Rattle.rsx_model.proofs.Endings.{Fine, AllFine, FineMeant, in_order_fine, concat_values_fine, merge_values_fine, merge_delay_values_fine, eager_values_fine, zip_values_fine, latest_values_fine, merged_lanes_fine, merged_lanes_delay_fine}
 
 -- ---- scan
 
@@ -393,6 +393,7 @@ node_fine w fine (layer.Flat f c gs b) kids at leaf = chosen_fine (slice_get w.n
 node_fine w fine (layer.FlatDelay f c gs b) kids at leaf = chosen_fine (slice_get w.notes at) (λ cs. option_and_then (flat_map_delay w.meaning f gs.items cs) (b.value.value (at + 1) leaf)) (λ cs. flat_delay_fine w.meaning f gs.items cs (b.value.value (at + 1) leaf) (kids.0 (at + 1) leaf))
 node_fine w fine (layer.Window n gs b) kids at leaf = quiet_fine (slice_get w.notes at) (option_map (window w.meaning n gs.items) (b.value.value (at + 1) leaf)) (window_fine w.meaning n gs.items (b.value.value (at + 1) leaf) (kids.0 (at + 1) leaf))
 node_fine w fine (layer.On k p b) kids at leaf = quiet_fine (slice_get w.notes at) (b.value.value (at + 1) leaf) (kids.0 (at + 1) leaf)
+node_fine w fine (layer.OnEager k p b) kids at leaf = chosen_fine (slice_get w.notes at) (λ cs. option_and_then (eager_of cs) (b.value.value (at + 1) leaf)) (λ cs. eager_values_fine cs (b.value.value (at + 1) leaf) (kids.0 (at + 1) leaf))
 node_fine w fine (layer.Concat v) kids at leaf =
     let values = in_order v.items (at + 1) leaf in
     quiet_fine (slice_get w.notes at) (option_map concat values) (concat_values_fine values (in_order_fine v.items kids (at + 1) leaf))

@@ -2,7 +2,7 @@
 use Rattle.std.proofs.Common.{◌≡◌, ℕ, ℤ, ◌+◌, ◌<◌, ◌≤◌, List, [], ◌∷◌, length, get_or, map, nat_le, nat_lt, Option, Some, None, option_map, option_and_then, slice_get, Vec, Global, Box, refl, sym, ap, subst, ◌∙◌, arith}
 use Rattle.std.proofs.lemmas.List.{length-map}
 use Rattle.std.proofs.lemmas.Option.{slice_get-get_or}
-use Rattle.rsx_values.specs.Prelude.{plain, listed, range_items, Stream, Stage, MOST_ITEMS, concat, merge, merge_delay, flat_map, flat_map_delay, group_by, window, combine_latest, zip, HubId}
+use Rattle.rsx_values.specs.Prelude.{plain, listed, range_items, Stream, Stage, MOST_ITEMS, concat, merge, merge_delay, eager_of, flat_map, flat_map_delay, group_by, window, combine_latest, zip, HubId}
 use Rattle.rsx_model.specs.declared.check.TheConstants.{MOST_DEPTH, MOST_NODES}
 use Rattle.rsx_model.specs.declared.check.BadExpr.{BadExpr}
 use Rattle.rsx_model.specs.declared.check.BadExpr.TheVariants.{Depth, Nodes, Inputs, Number, Hub as NoSuchHub, Length}
@@ -11,7 +11,7 @@ use Rattle.rsx_model.specs.declared.expr.Expr.TheOpen.{Expr-F}
 use Rattle.rsx_model.specs.declared.expr.Expr.TheOpen as layer
 use Rattle.rsx_model.specs.declared.expr.Expr.TheFolds.{map-Expr, fold_out-Expr, ind-Expr}
 use Rattle.rsx_model.specs.declared.expr.Expr.TheVariants.{Items, Range, Hub}
-use Rattle.rsx_model.specs.declared.expr.Expr.TheViews.{Plain, Concat, Merge, MergeDelay, Zip, Latest, Group, Window, Flat, FlatDelay, On, outs-Items, outs-Range, outs-Hub, outs-Plain, outs-Concat, outs-Merge, outs-MergeDelay, outs-Zip, outs-Latest, outs-Group, outs-Window, outs-Flat, outs-FlatDelay, outs-On, rolls-Items, rolls-Range, rolls-Hub, rolls-Plain, rolls-Concat, rolls-Merge, rolls-MergeDelay, rolls-Zip, rolls-Latest, rolls-Group, rolls-Window, rolls-Flat, rolls-FlatDelay, rolls-On, roll-out-Expr, out-Expr, roll-Expr, out-roll-Expr}
+use Rattle.rsx_model.specs.declared.expr.Expr.TheViews.{Plain, Concat, Merge, MergeDelay, Zip, Latest, Group, Window, Flat, FlatDelay, On, OnEager, outs-Items, outs-Range, outs-Hub, outs-Plain, outs-Concat, outs-Merge, outs-MergeDelay, outs-Zip, outs-Latest, outs-Group, outs-Window, outs-Flat, outs-FlatDelay, outs-On, outs-OnEager, rolls-Items, rolls-Range, rolls-Hub, rolls-Plain, rolls-Concat, rolls-Merge, rolls-MergeDelay, rolls-Zip, rolls-Latest, rolls-Group, rolls-Window, rolls-Flat, rolls-FlatDelay, rolls-On, rolls-OnEager, roll-out-Expr, out-Expr, roll-Expr, out-roll-Expr}
 use Rattle.rsx_model.specs.Shape.{children, leaf_here, sum_of, max_of, nodes, depth, leaves}
 use Rattle.rsx_model.specs.Check.{own_fault, queued_fault, window_fault, chain_fault, flat_fault, or_else, first_of, first_fault, unless, range_fits, stage_fits, inputs_fit, worker_fits, refusal}
 use Rattle.rsx_model.specs.Eval.{Environment, Meant, quiet, chosen, ended_by_record, behind, joined_value, in_order, node_value, node_meant, meant}
@@ -33,6 +33,7 @@ own_fault-map hubs h (layer.Window n gs b) = refl
 own_fault-map hubs h (layer.Flat f c gs b) = refl
 own_fault-map hubs h (layer.FlatDelay f c gs b) = refl
 own_fault-map hubs h (layer.On k p b) = refl
+own_fault-map hubs h (layer.OnEager k p b) = refl
 
 leaf_here-map : {T A B : Type 0} (h : A → B) (x : Expr-F T A) → leaf_here (map-Expr T A B h x) ≡ leaf_here x
 leaf_here-map h (layer.Items v) = refl
@@ -49,6 +50,7 @@ leaf_here-map h (layer.Window n gs b) = refl
 leaf_here-map h (layer.Flat f c gs b) = refl
 leaf_here-map h (layer.FlatDelay f c gs b) = refl
 leaf_here-map h (layer.On k p b) = refl
+leaf_here-map h (layer.OnEager k p b) = refl
 
 -- the children's answers
 pub children-map : {T A B : Type 0} (h : A → B) (x : Expr-F T A) → children (map-Expr T A B h x) ≡ map h (children x)
@@ -66,6 +68,7 @@ children-map h (layer.Window n gs b) = refl
 children-map h (layer.Flat f c gs b) = refl
 children-map h (layer.FlatDelay f c gs b) = refl
 children-map h (layer.On k p b) = refl
+children-map h (layer.OnEager k p b) = refl
 
 pub nodes_out : {T : Type 0} (e : Expr T) → nodes e ≡ 1 + sum_of (map nodes (children (out-Expr T e)))
 nodes_out {T} e = fold_out-Expr T ℕ (λ x. 1 + sum_of (children x)) e ∙ ap (λ xs. 1 + sum_of xs) (children-map nodes (out-Expr T e))
@@ -177,6 +180,9 @@ first_fault_FlatDelay hubs f c gs b = rw (fault_out, outs-FlatDelay) (ap (or_els
 pub first_fault_On : {T : Type 0} (hubs k p : ℕ) (b : Below T) → first_fault hubs (On k p b) ≡ or_else (unless (worker_fits k p) Number) (first_fault hubs b.value)
 first_fault_On hubs k p b = rw (fault_out, outs-On) (ap (or_else (unless (worker_fits k p) Number)) (or_else-nothing _))
 
+pub first_fault_OnEager : {T : Type 0} (hubs k p : ℕ) (b : Below T) → first_fault hubs (OnEager k p b) ≡ or_else (unless (worker_fits k p) Number) (first_fault hubs b.value)
+first_fault_OnEager hubs k p b = rw (fault_out, outs-OnEager) (ap (or_else (unless (worker_fits k p) Number)) (or_else-nothing _))
+
 pub value_Items : {T : Type 0} (w : Environment T) (v : Listed T) (at leaf : ℕ) → (meant w (Items v)).value at leaf ≡ quiet (slice_get w.notes at) (Some (listed v.items))
 value_Items w v at leaf = rw (value_out, outs-Items) refl
 
@@ -219,6 +225,9 @@ value_FlatDelay w f c gs b at leaf = rw (value_out, outs-FlatDelay) refl
 pub value_On : {T : Type 0} (w : Environment T) (k p : ℕ) (b : Below T) (at leaf : ℕ) → (meant w (On k p b)).value at leaf ≡ quiet (slice_get w.notes at) ((meant w b.value).value (at + 1) leaf)
 value_On w k p b at leaf = rw (value_out, outs-On) refl
 
+pub value_OnEager : {T : Type 0} (w : Environment T) (k p : ℕ) (b : Below T) (at leaf : ℕ) → (meant w (OnEager k p b)).value at leaf ≡ chosen (slice_get w.notes at) (λ cs. option_and_then (eager_of cs) ((meant w b.value).value (at + 1) leaf))
+value_OnEager w k p b at leaf = rw (value_out, outs-OnEager) refl
+
 -- ---- the size of what an expression means
 
 sum_le : {A : Type 0} (f g : A → ℕ) (xs : List A) → Each (λ x. f x ≤ g x) xs → sum_of (map f xs) ≤ sum_of (map g xs)
@@ -248,6 +257,7 @@ leaf_here-le (layer.Window n gs b) = omega arith
 leaf_here-le (layer.Flat f c gs b) = omega arith
 leaf_here-le (layer.FlatDelay f c gs b) = omega arith
 leaf_here-le (layer.On k p b) = omega arith
+leaf_here-le (layer.OnEager k p b) = omega arith
 
 pub leaves_le_nodes : {T : Type 0} (e : Expr T) → leaves e ≤ nodes e
 leaves_le_nodes {T} = by_children (λ e. leaves e ≤ nodes e) (λ e kids.
@@ -326,6 +336,9 @@ fault_FlatDelay hubs f c gs b h = or_none _ _ (sym (first_fault_FlatDelay hubs f
 -- the same of what stands under a `publishOn`, of a worker and a prefetch within their limits
 pub fault_On : {T : Type 0} (hubs k p : ℕ) (b : Below T) → first_fault hubs (On k p b) ≡ None → (unless (worker_fits k p) Number ≡ None) × (first_fault hubs b.value ≡ None)
 fault_On hubs k p b h = or_none _ _ (sym (first_fault_On hubs k p b) ∙ h)
+
+pub fault_OnEager : {T : Type 0} (hubs k p : ℕ) (b : Below T) → first_fault hubs (OnEager k p b) ≡ None → (unless (worker_fits k p) Number ≡ None) × (first_fault hubs b.value ≡ None)
+fault_OnEager hubs k p b h = or_none _ _ (sym (first_fault_OnEager hubs k p b) ∙ h)
 
 -- ---- what a node of several inputs stands over
 

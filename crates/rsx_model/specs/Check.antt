@@ -2,7 +2,7 @@
 use Rattle.std.specs.Prelude.{ℕ, ℤ, pos, ◌+ℤ◌, ◌^◌, Bool, true, false, ◌&&◌, ◌||◌, int_le, nat_eq, nat_le, nat_lt, List, [], ◌∷◌, length, Option, Some, None}
 use Rattle.rsx_values.specs.Prelude.{Stage, Take, Buffer, MOST_ITEMS}
 use Rattle.rsx_model.specs.declared.expr.Expr.{Expr}
-use Rattle.rsx_model.specs.declared.expr.Expr.TheOpen.{Expr-F, Items, Range, Hub, Plain, Concat, Merge, MergeDelay, Zip, Latest, Group, Window, Flat, FlatDelay, On}
+use Rattle.rsx_model.specs.declared.expr.Expr.TheOpen.{Expr-F, Items, Range, Hub, Plain, Concat, Merge, MergeDelay, Zip, Latest, Group, Window, Flat, FlatDelay, On, OnEager}
 use Rattle.rsx_model.specs.declared.expr.Expr.TheFolds.{fold-Expr}
 use Rattle.rsx_model.specs.declared.check.BadExpr.{BadExpr}
 use Rattle.rsx_model.specs.declared.check.TheConstants.{MOST_DEPTH, MOST_NODES, MOST_COUNT, MOST_INPUTS, MOST_PREFETCH, MOST_STAGES, MOST_WINDOW, MOST_CONCURRENCY, MOST_WORKER}
@@ -105,6 +105,7 @@ own_fault hubs (Window n gs b) = window_fault n gs.items
 own_fault hubs (Flat f c gs b) = flat_fault c gs.items
 own_fault hubs (FlatDelay f c gs b) = flat_fault c gs.items
 own_fault hubs (On k p b) = unless (worker_fits k p) Number
+own_fault hubs (OnEager k p b) = unless (worker_fits k p) Number
 
 -- what is wrong with the first faulty node in pre-order
 abbrev pub first_fault : {T : Type 0} → ℕ → Expr T → Option BadExpr

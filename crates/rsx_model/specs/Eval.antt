@@ -3,9 +3,9 @@ use Rattle.std.specs.Prelude.{ℕ, ◌+◌, List, [], ◌∷◌, map, drop, Opti
 pub use Rattle.rsx_types.specs.Stream.{Stream}
 pub use Rattle.rsx_types.specs.Meaning.{Meaning}
 pub use Rattle.rsx_types.specs.Plain.{plain, listed, range_items}
-use Rattle.rsx_values.specs.Prelude.{concat, merge, merge_delay, flat_map, flat_map_delay, group_by, window, combine_latest, zip, Note, Nothing, Picks, Ended}
+use Rattle.rsx_values.specs.Prelude.{concat, merge, merge_delay, eager_of, flat_map, flat_map_delay, group_by, window, combine_latest, zip, Note, Nothing, Picks, Ended}
 use Rattle.rsx_model.specs.declared.expr.Expr.{Expr}
-use Rattle.rsx_model.specs.declared.expr.Expr.TheOpen.{Expr-F, Items, Range, Hub, Plain, Concat, Merge, MergeDelay, Zip, Latest, Group, Window, Flat, FlatDelay, On}
+use Rattle.rsx_model.specs.declared.expr.Expr.TheOpen.{Expr-F, Items, Range, Hub, Plain, Concat, Merge, MergeDelay, Zip, Latest, Group, Window, Flat, FlatDelay, On, OnEager}
 use Rattle.rsx_model.specs.declared.expr.Expr.TheFolds.{fold-Expr}
 use Rattle.rsx_model.specs.Shape.{children, sum_of, leaf_here}
 
@@ -86,6 +86,7 @@ node_value w (Flat f c gs b) at leaf =
 node_value w (FlatDelay f c gs b) at leaf =
     chosen (slice_get w.notes at) (λ cs. option_and_then (flat_map_delay w.meaning f gs.items cs) (b.value.value (at + 1) leaf))
 node_value w (On k p b) at leaf = quiet (slice_get w.notes at) (b.value.value (at + 1) leaf)
+node_value w (OnEager k p b) at leaf = chosen (slice_get w.notes at) (λ cs. option_and_then (eager_of cs) (b.value.value (at + 1) leaf))
 
 -- what one node means, from what its children mean
 abbrev pub node_meant : {T : Type 0} → Environment T → Expr-F T (Meant T) → Meant T

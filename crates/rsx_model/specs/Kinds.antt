@@ -2,7 +2,7 @@
 use Rattle.std.specs.Prelude.{◌≡◌, Bool, true, false, if◌then◌else◌, List, [], ◌∷◌, Option, Some, None, option_and_then}
 use Rattle.rsx_values.specs.Prelude.{Note, Nothing, Picks, Ended}
 use Rattle.rsx_model.specs.declared.expr.Expr.{Expr}
-use Rattle.rsx_model.specs.declared.expr.Expr.TheOpen.{Expr-F, Items, Range, Hub, Plain, Concat, Merge, MergeDelay, Zip, Latest, Group, Window, Flat, FlatDelay, On}
+use Rattle.rsx_model.specs.declared.expr.Expr.TheOpen.{Expr-F, Items, Range, Hub, Plain, Concat, Merge, MergeDelay, Zip, Latest, Group, Window, Flat, FlatDelay, On, OnEager}
 use Rattle.rsx_model.specs.declared.expr.Expr.TheFolds.{fold-Expr}
 use Rattle.rsx_model.specs.Shape.{children}
 
@@ -37,6 +37,7 @@ is_of_kind (Window k gs b) n = is_nothing n
 is_of_kind (Flat f c gs b) n = is_picks n
 is_of_kind (FlatDelay f c gs b) n = is_picks n
 is_of_kind (On k p b) n = is_nothing n
+is_of_kind (OnEager k p b) n = is_picks n
 
 -- the notes behind the first, where that one is of the kind
 abbrev pub behind_kind : (Note → Bool) → List Note → Option (List Note)

@@ -2,7 +2,7 @@
 use Rattle.std.specs.Prelude.{ℕ, List, [], ◌∷◌, Option, Some, None}
 use Rattle.rsx_model.specs.Shape.{children}
 use Rattle.rsx_model.specs.declared.expr.Expr.{Expr}
-use Rattle.rsx_model.specs.declared.expr.Expr.TheOpen.{Expr-F, Items, Range, Hub, Plain, Concat, Merge, MergeDelay, Zip, Latest, Group, Window, Flat, FlatDelay, On}
+use Rattle.rsx_model.specs.declared.expr.Expr.TheOpen.{Expr-F, Items, Range, Hub, Plain, Concat, Merge, MergeDelay, Zip, Latest, Group, Window, Flat, FlatDelay, On, OnEager}
 use Rattle.rsx_model.specs.declared.expr.Expr.TheFolds.{fold-Expr}
 
 -- the worker that a node names
@@ -21,6 +21,7 @@ worker_here (Window n gs b) = None
 worker_here (Flat f c gs b) = None
 worker_here (FlatDelay f c gs b) = None
 worker_here (On k p b) = Some k
+worker_here (OnEager k p b) = Some k
 
 -- a node's region, from those of its children: that of the worker that it names, else that of the first child, and 0 for a leaf
 abbrev pub region_from : Option ℕ → List ℕ → ℕ

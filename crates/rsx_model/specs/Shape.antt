@@ -1,7 +1,7 @@
 -- The size of an expression.
 use Rattle.std.specs.Prelude.{ℕ, ◌+◌, max, List, [], ◌∷◌}
 use Rattle.rsx_model.specs.declared.expr.Expr.{Expr}
-use Rattle.rsx_model.specs.declared.expr.Expr.TheOpen.{Expr-F, Items, Range, Hub, Plain, Concat, Merge, MergeDelay, Zip, Latest, Group, Window, Flat, FlatDelay, On}
+use Rattle.rsx_model.specs.declared.expr.Expr.TheOpen.{Expr-F, Items, Range, Hub, Plain, Concat, Merge, MergeDelay, Zip, Latest, Group, Window, Flat, FlatDelay, On, OnEager}
 use Rattle.rsx_model.specs.declared.expr.Expr.TheFolds.{fold-Expr}
 use Rattle.rsx_model.specs.declared.expr.Below.{Below}
 use Rattle.rsx_model.specs.declared.expr.Below.TheVariants.{One, Inputs}
@@ -22,6 +22,7 @@ children (Window n gs b) = b.value ∷ []
 children (Flat f c gs b) = b.value ∷ []
 children (FlatDelay f c gs b) = b.value ∷ []
 children (On k p b) = b.value ∷ []
+children (OnEager k p b) = b.value ∷ []
 
 -- the children that an answer of `below_of` names
 abbrev pub listed_below : {T : Type 0} → Below T → List (Expr T)
@@ -62,6 +63,7 @@ leaf_here (Window n gs b) = 0
 leaf_here (Flat f c gs b) = 0
 leaf_here (FlatDelay f c gs b) = 0
 leaf_here (On k p b) = 0
+leaf_here (OnEager k p b) = 0
 
 -- how many hub leaves
 abbrev pub leaves : {T : Type 0} → Expr T → ℕ

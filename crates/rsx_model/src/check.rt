@@ -192,7 +192,7 @@ fn own_leaf<T>(expr: &Expr<T>) -> u64
         Expr::Plain(_, _) | Expr::Concat(_) => 0,
         Expr::Merge(_, _) | Expr::MergeDelay(_, _) | Expr::Zip(_, _) | Expr::Latest(_, _) => 0,
         Expr::Group(_, _, _) | Expr::Window(_, _, _) | Expr::Flat(_, _, _, _) => 0,
-        Expr::FlatDelay(_, _, _, _) | Expr::On(_, _, _) => 0,
+        Expr::FlatDelay(_, _, _, _) | Expr::On(_, _, _) | Expr::OnEager(_, _, _) => 0,
     }
 }
 
@@ -244,6 +244,9 @@ fn own_fault_of<T>(expr: &Expr<T>, hubs: u64) -> Option<BadExpr>
         Expr::Flat(_, concurrency, stages, _) => flat_fault_of(*concurrency, stages),
         Expr::FlatDelay(_, concurrency, stages, _) => flat_fault_of(*concurrency, stages),
         Expr::On(worker, prefetch, _) => unless_ok(is_worker(*worker, *prefetch), BadExpr::Number),
+        Expr::OnEager(worker, prefetch, _) => {
+            unless_ok(is_worker(*worker, *prefetch), BadExpr::Number)
+        }
     }
 }
 

@@ -11,7 +11,7 @@ ghost use Rattle.rsx_model.specs.Eval.{environment, meant, in_order, quiet, behi
 ghost use Rattle.rsx_model.specs.Answer.{Gives, GivesAll, IsScratch, alone, name_codes};
 
 use crate::kinds::are_noted;
-use crate::lanes::{flat_delay_of, flat_of, group_of, window_of};
+use crate::lanes::{flat_delay_of, flat_of, group_of, on_eager_of, window_of};
 use crate::several::{concat_of, latest_of, merge_delay_of, merge_of, zip_of};
 use crate::{
     BadExpr, Below, Expr, MOST_COUNT, MOST_NODES, below_of, leaves_of, nodes_of, refusal_of,
@@ -220,6 +220,7 @@ fn node_value_of<O: Ops>(
         Expr::Flat(f, _, stages, _) => flat_of(alloc, ops, *f, stages, note, values),
         Expr::FlatDelay(f, _, stages, _) => flat_delay_of(alloc, ops, *f, stages, note, values),
         Expr::On(_, _, _) => if_quiet(note, only_of(values)),
+        Expr::OnEager(_, _, _) => on_eager_of(note, values),
     }
 }
 

@@ -54,6 +54,9 @@ pub enum Expr<T> {
     /// What is below it, unchanged, from a queue (`publishOn`). The first number is that of the worker that is to serve what
     /// stands over it, 0 to 15; it changes no value. The second is the prefetch, the room of the queue, as for `Merge`.
     On(u8, u64, Box<Expr<T>>),
+    /// As `On`, but the failure may overtake items that wait before it, which are then dropped (`publishOnEager`): what is taken next is
+    /// chosen and recorded.
+    OnEager(u8, u64, Box<Expr<T>>),
 }
 
 /// What a node stands over.
@@ -84,5 +87,6 @@ pub fn below_of<T>(expr: &Expr<T>) -> Below<'_, T>
         Expr::Flat(_, _, _, below) => Below::One(below),
         Expr::FlatDelay(_, _, _, below) => Below::One(below),
         Expr::On(_, _, below) => Below::One(below),
+        Expr::OnEager(_, _, below) => Below::One(below),
     }
 }

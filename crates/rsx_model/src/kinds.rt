@@ -57,6 +57,7 @@ fn records<T>(expr: &Expr<T>, note: &Note) -> bool
         Expr::Latest(_, _) => matches!(note, Note::Picks(_)),
         Expr::Group(_, _, _) | Expr::Flat(_, _, _, _) => matches!(note, Note::Picks(_)),
         Expr::FlatDelay(_, _, _, _) => matches!(note, Note::Picks(_)),
+        Expr::OnEager(_, _, _) => matches!(note, Note::Picks(_)),
         Expr::Zip(_, _) => matches!(note, Note::Ended(_)),
         Expr::Window(_, _, _) | Expr::On(_, _, _) => matches!(note, Note::Nothing),
     }

@@ -1,7 +1,8 @@
-//! Operators with lanes, over the value of their only input.
+//! Operators with lanes and `publishOnEager`, over the value of their only input.
 
 ghost use Rattle.std.specs.Prelude.{Option, Some, option_map, option_and_then};
 ghost use Rattle.rsx_types.specs.Stream.{Stream};
+ghost use Rattle.rsx_values.specs.Eager.{eager_of};
 ghost use Rattle.rsx_values.specs.Flat.{flat_map, flat_map_delay};
 ghost use Rattle.rsx_values.specs.Group.{group_by};
 ghost use Rattle.rsx_values.specs.Window.{window};
@@ -11,7 +12,7 @@ ghost use Rattle.rsx_model.specs.Answer.{Gives, GivesAll, alone};
 use crate::evaluate::{Trouble, only_of};
 use crate::several::if_valid;
 use rsx_types::{Note, Ops, Stage, StreamValue};
-use rsx_values::{flat_map, flat_map_delay, group_by, window};
+use rsx_values::{eager_of, flat_map, flat_map_delay, group_by, window};
 use std::alloc::Global;
 
 /// The value of `groupBy` over the value of its only input, by the choices that were recorded; any other record is out of place.
@@ -89,6 +90,20 @@ pub(crate) fn flat_delay_of<O: Ops>(
             let input = only_of(values)?;
             if_valid(flat_map_delay(alloc, ops, f, stages, choices.as_slice(), input)?)
         }
+        Note::Nothing => Err(Trouble::BadNotes),
+        Note::Ended(_) => Err(Trouble::BadNotes),
+    }
+}
+
+/// The value of `publishOnEager` over the value of its only input, by the choices that were recorded; any other record is out of place.
+pub(crate) fn on_eager_of<T: Drop>(
+    note: &Note,
+    values: Result<Vec<StreamValue<T>>, Trouble>,
+) -> Result<StreamValue<T>, Trouble>
+    ensures { (o : Option (Stream T)) → GivesAll values (alone o) → Gives result (chosen (Some note.now) (λ cs. option_and_then (eager_of cs) o)) }
+{
+    match note {
+        Note::Picks(choices) => if_valid(eager_of(only_of(values)?, choices.as_slice())),
         Note::Nothing => Err(Trouble::BadNotes),
         Note::Ended(_) => Err(Trouble::BadNotes),
     }

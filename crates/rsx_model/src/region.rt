@@ -29,6 +29,7 @@ fn own_worker<T>(expr: &Expr<T>) -> Option<u8>
 {
     match expr {
         Expr::On(worker, _, _) => Some(*worker),
+        Expr::OnEager(worker, _, _) => Some(*worker),
         Expr::Items(_) | Expr::Range(_, _) | Expr::Hub(_) => None,
         Expr::Plain(_, _) | Expr::Concat(_) => None,
         Expr::Merge(_, _) | Expr::MergeDelay(_, _) => None,

@@ -68,6 +68,7 @@ reads_le n (layer.Window k gs b) = omega arith
 reads_le n (layer.Flat f c gs b) = omega arith
 reads_le n (layer.FlatDelay f c gs b) = omega arith
 reads_le n (layer.On k p b) = omega arith
+reads_le n (layer.OnEager k p b) = omega arith
 
 pub leaves_le : {T : Type 0} (n : ℕ) (e : Expr T) → leaves_on n e ≤ nodes e
 leaves_le {T} n = by_children (λ e. leaves_on n e ≤ nodes e) (λ e kids.

@@ -6,7 +6,7 @@ use Rattle.rsx_model.specs.Eval.{environment, meant}
 use Rattle.rsx_model.specs.Shape.{children}
 use Rattle.rsx_model.specs.declared.expr.Expr.{Expr}
 use Rattle.rsx_model.specs.declared.expr.Expr.TheFolds.{fold-Expr}
-use Rattle.rsx_model.specs.declared.expr.Expr.TheOpen.{Expr-F, Items, Range, Hub, Concat, Merge, MergeDelay, Zip, Latest, Group, Window, Flat, FlatDelay, On}
+use Rattle.rsx_model.specs.declared.expr.Expr.TheOpen.{Expr-F, Items, Range, Hub, Concat, Merge, MergeDelay, Zip, Latest, Group, Window, Flat, FlatDelay, On, OnEager}
 use Rattle.rsx_model.specs.declared.expr.Expr.TheOpen as layer
 use Rattle.rsx_types.specs.Meaning.{Meaning}
 use Rattle.rsx_types.specs.Notes.{note_then}
@@ -56,6 +56,7 @@ begins_ended (Window n gs b) = false
 begins_ended (Flat f c gs b) = false
 begins_ended (FlatDelay f c gs b) = false
 begins_ended (On k p b) = false
+begins_ended (OnEager k p b) = false
 
 -- an edge for each input, with those below it
 abbrev pub fresh_beside : List (List EdgeView) → List EdgeView
@@ -94,6 +95,7 @@ prefetch_of (Window n gs b) = 0
 prefetch_of (Flat f c gs b) = c
 prefetch_of (FlatDelay f c gs b) = c
 prefetch_of (On k p b) = p
+prefetch_of (OnEager k p b) = p
 
 -- the same number for each input, with those below it
 abbrev pub wants_beside : ℕ → List (List ℕ) → List ℕ
@@ -142,6 +144,7 @@ join_here js (Window n gs b) = []
 join_here js (Flat f c gs b) = []
 join_here js (FlatDelay f c gs b) = []
 join_here js (On k p b) = []
+join_here js (OnEager k p b) = []
 
 -- lists one behind the other
 abbrev pub in_a_row : {A : Type 0} → List (List A) → List A

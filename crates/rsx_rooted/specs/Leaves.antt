@@ -5,7 +5,7 @@ use Rattle.rsx_hub.specs.declared.TheConstants.{MOST_MEMBERS}
 use Rattle.rsx_model.specs.Shape.{children, sum_of}
 use Rattle.rsx_model.specs.declared.expr.Expr.{Expr}
 use Rattle.rsx_model.specs.declared.expr.Expr.TheFolds.{fold-Expr}
-use Rattle.rsx_model.specs.declared.expr.Expr.TheOpen.{Expr-F, Items, Range, Hub, Plain, Concat, Merge, MergeDelay, Zip, Latest, Group, Window, Flat, FlatDelay, On}
+use Rattle.rsx_model.specs.declared.expr.Expr.TheOpen.{Expr-F, Items, Range, Hub, Plain, Concat, Merge, MergeDelay, Zip, Latest, Group, Window, Flat, FlatDelay, On, OnEager}
 
 -- 1 if the node reads the hub with this number
 abbrev pub reads_here : {T A : Type 0} → ℕ → Expr-F T A → ℕ
@@ -23,6 +23,7 @@ reads_here n (Window k gs b) = 0
 reads_here n (Flat f c gs b) = 0
 reads_here n (FlatDelay f c gs b) = 0
 reads_here n (On k p b) = 0
+reads_here n (OnEager k p b) = 0
 
 -- how many leaves of an expression read the hub with this number
 abbrev pub leaves_on : {T : Type 0} → ℕ → Expr T → ℕ

@@ -56,6 +56,7 @@ fn add_joins<T: Drop>(expr: &Expr<T>, hubs: &[Hub<T>], joins: &mut Vec<u64>) -> 
         Expr::Flat(_, _, _, input) => add_joins(input, hubs, joins),
         Expr::FlatDelay(_, _, _, input) => add_joins(input, hubs, joins),
         Expr::On(_, _, input) => add_joins(input, hubs, joins),
+        Expr::OnEager(_, _, input) => add_joins(input, hubs, joins),
     }
 }
 

@@ -31,6 +31,7 @@ fn leaves_on<T>(expr: &Expr<T>, hub: u32) -> u64
         Expr::Flat(_, _, _, input) => leaves_on(input, hub),
         Expr::FlatDelay(_, _, _, input) => leaves_on(input, hub),
         Expr::On(_, _, input) => leaves_on(input, hub),
+        Expr::OnEager(_, _, input) => leaves_on(input, hub),
     }
 }
 

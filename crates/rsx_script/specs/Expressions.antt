@@ -15,7 +15,7 @@ use Rattle.rsx_script.specs.Numbers.{u8_of, u32_of, u64_of, signed_of}
 use Rattle.rsx_script.specs.Reading.{Left, ◌>>=◌, next_at, opening_at, closing_at, name_at, number_at, is_opening_next}
 use Rattle.rsx_script.specs.declared.expression.OneInput.{OneInput}
 use Rattle.rsx_script.specs.declared.expression.OneInput.TheVariants as one
-use Rattle.rsx_script.specs.Orders.{Tree, Trees, items, range, hub, plain, concat, merge, merge_delay, zip, latest, group, window, flat, flat_delay, on, none, first}
+use Rattle.rsx_script.specs.Orders.{Tree, Trees, items, range, hub, plain, concat, merge, merge_delay, zip, latest, group, window, flat, flat_delay, on, on_eager, none, first}
 
 -- the name of a function of this use, which has a number
 unfoldable pub function_at : Role → Left → Result (ℕ × Left) LineRefusal
@@ -157,6 +157,7 @@ node_over (one.Window n gs) = window n gs.items
 node_over (one.FlatMap f c gs) = flat f c gs.items
 node_over (one.FlatMapDelay f c gs) = flat_delay f c gs.items
 node_over (one.PublishOn k p) = on k p
+node_over (one.PublishOnEager k p) = on_eager k p
 
 -- a plain operator
 abbrev pub of_stage : ℕ → List ℕ → Left → Result ((Tree → Tree) × Left) LineRefusal
@@ -200,6 +201,12 @@ on_at l = do
   p ← number_at u64_of k.1
   Ok (on k.0 p.0, p.1)
 
+unfoldable pub on_eager_at : Left → Result ((Tree → Tree) × Left) LineRefusal
+on_eager_at l = do
+  k ← number_at u8_of l
+  p ← number_at u64_of k.1
+  Ok (on_eager k.0 p.0, p.1)
+
 -- those of them that aren't plain have these names
 unfoldable pub one_input_at : ℕ → ℕ → List ℕ → Left → Result ((Tree → Tree) × Left) LineRefusal
 one_input_at most column name l =
@@ -208,7 +215,8 @@ one_input_at most column name l =
     else (if bytes_eq name (codes "flatMap") then flat_at most l
     else (if bytes_eq name (codes "publishOn") then on_at l
     else (if bytes_eq name (codes "flatMapDelayError") then flat_delay_at most l
-    else of_stage column name l))))
+    else (if bytes_eq name (codes "publishOnEager") then on_eager_at l
+    else of_stage column name l)))))
 
 -- such an operator, and then its input
 unfoldable pub over_one_at : (Left → Result (Tree × Left) LineRefusal) → ℕ → ℕ → List ℕ → Left → Result (Tree × Left) LineRefusal

@@ -3,7 +3,7 @@ use Rattle.std.specs.Prelude.{ℕ, ℤ, List, [], ◌∷◌}
 use Rattle.rsx_values.specs.Prelude.{HubKind, Stage}
 use Rattle.rsx_demo.specs.declared.val.Val.{Val}
 use Rattle.rsx_model.specs.declared.expr.Expr.{Expr}
-use Rattle.rsx_model.specs.declared.expr.Expr.TheOpen.{Expr-F, Items, Range, Hub, Plain, Concat, Merge, MergeDelay, Zip, Latest, Group, Window, Flat, FlatDelay, On}
+use Rattle.rsx_model.specs.declared.expr.Expr.TheOpen.{Expr-F, Items, Range, Hub, Plain, Concat, Merge, MergeDelay, Zip, Latest, Group, Window, Flat, FlatDelay, On, OnEager}
 use Rattle.rsx_model.specs.declared.expr.Expr.TheFolds.{fold-Expr}
 use Rattle.rsx_script.specs.declared.command.Command.{Command}
 use Rattle.rsx_script.specs.declared.command.Command.TheVariants as asks
@@ -25,6 +25,7 @@ mutual
     flat : ℕ → ℕ → List (Stage Val) → Tree → Tree
     flat_delay : ℕ → ℕ → List (Stage Val) → Tree → Tree
     on : ℕ → ℕ → Tree → Tree
+    on_eager : ℕ → ℕ → Tree → Tree
 
   pub data Trees : Type 0 where
     none : Trees
@@ -50,6 +51,7 @@ node_of (Window n gs b) = window n gs.items b.value
 node_of (Flat f c gs b) = flat f c gs.items b.value
 node_of (FlatDelay f c gs b) = flat_delay f c gs.items b.value
 node_of (On k p b) = on k p b.value
+node_of (OnEager k p b) = on_eager k p b.value
 
 abbrev pub tree_of : Expr Val → Tree
 tree_of = fold-Expr Val Tree node_of

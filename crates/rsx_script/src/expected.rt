@@ -34,7 +34,7 @@ const NUMBERS: [(&str, &str); 4] = [
 ];
 
 /// The other words that are tried.
-const WORDS: [&str; 53] = [
+const WORDS: [&str; 54] = [
     "(",
     ")",
     "m",
@@ -76,6 +76,7 @@ const WORDS: [&str; 53] = [
     "flatMap",
     "flatMapDelayError",
     "publishOn",
+    "publishOnEager",
     "inc",
     "double",
     "neg",

@@ -3,7 +3,7 @@
 ghost use Rattle.std.specs.Prelude.{◌≡◌, ◌<◌, ◌≤◌, ℕ, IfOk, IfSome, OnOk, map};
 ghost use Rattle.rsx_script.specs.Reading.{Gives, GivesInMemory, left, bytes_left};
 ghost use Rattle.rsx_script.specs.Orders.{tree_of, trees_of};
-ghost use Rattle.rsx_script.specs.Expressions.{function_at, stage_at, opened_stage_at, chain_stage_at, stages_at, chain_at, item_at, items_at, range_at, hub_at, inputs_at, node_over, group_at, window_at, flat_at, flat_delay_at, on_at, one_input_at, over_one_at, operator_at, expression_at};
+ghost use Rattle.rsx_script.specs.Expressions.{function_at, stage_at, opened_stage_at, chain_stage_at, stages_at, chain_at, item_at, items_at, range_at, hub_at, inputs_at, node_over, group_at, window_at, flat_at, flat_delay_at, on_at, on_eager_at, one_input_at, over_one_at, operator_at, expression_at};
 
 use crate::parse::hub;
 use crate::{LineRefusal, Word, Words, number_i64};
@@ -113,6 +113,8 @@ pub(crate) enum OneInput {
     FlatMapDelay(u16, u64, Vec<Stage<Val>>),
     /// `publishOn`: the worker, and the prefetch.
     PublishOn(u8, u64),
+    /// `publishOnEager`: the same.
+    PublishOnEager(u8, u64),
 }
 
 impl OneInput {
@@ -131,6 +133,7 @@ impl OneInput {
                 Expr::FlatDelay(expand, concurrency, stages, input)
             }
             OneInput::PublishOn(worker, prefetch) => Expr::On(worker, prefetch, input),
+            OneInput::PublishOnEager(worker, prefetch) => Expr::OnEager(worker, prefetch, input),
         }
     }
 }
@@ -152,6 +155,7 @@ fn one_input(
         "flatMap" => flat_map(alloc, words),
         "publishOn" => publish_on(words),
         "flatMapDelayError" => flat_map_delay(alloc, words),
+        "publishOnEager" => publish_on_eager(words),
         _ => Ok(OneInput::Plain(stage(column, name, words)?)),
     }
 }
@@ -211,6 +215,17 @@ fn publish_on(words: &mut Words<'_>) -> Result<OneInput, LineRefusal>
     let worker = words.u8()?;
     let prefetch = words.u64()?;
     Ok(OneInput::PublishOn(worker, prefetch))
+}
+
+/// The worker and the prefetch of a `publishOnEager`.
+#[tactic(auto, unfolding(crate::specs::Expressions::on_eager_at))]
+fn publish_on_eager(words: &mut Words<'_>) -> Result<OneInput, LineRefusal>
+    ensures word { Gives (λ o. (node_over o, left words.new)) result (on_eager_at (left words.old)) }
+    ensures most { bytes_left words.new ≤ bytes_left words.old }
+{
+    let worker = words.u8()?;
+    let prefetch = words.u64()?;
+    Ok(OneInput::PublishOnEager(worker, prefetch))
 }
 
 /// The plain operator with this name, which stands at this column, with its functions and numbers.

@@ -105,6 +105,7 @@ own_more n k more (layer.Window i gs b) h = h
 own_more n k more (layer.Flat f c gs b) h = h
 own_more n k more (layer.FlatDelay f c gs b) h = h
 own_more n k more (layer.On w p b) h = h
+own_more n k more (layer.OnEager w p b) h = h
 
 all_faultless : {T : Type 0} (n k : ℕ) (es : List (Expr T)) → Each (λ e. first_fault n e ≡ None → first_fault k e ≡ None) es → first_of (map (first_fault n) es) ≡ None → first_of (map (first_fault k) es) ≡ None
 all_faultless n k [] each h = refl

@@ -1,6 +1,7 @@
 -- Definitions that contracts cite.
 pub mod Concat
 pub mod Delayed
+pub mod Eager
 pub mod Evaluated
 pub mod Flat
 pub mod Group
@@ -14,6 +15,7 @@ pub mod Rows
 pub mod Steps
 pub mod Window
 pub mod WorkedDelayed
+pub mod WorkedEager
 pub mod WorkedJoins
 pub mod WorkedLanes
 pub mod Zip

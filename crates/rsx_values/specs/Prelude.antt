@@ -17,6 +17,7 @@ pub use Rattle.rsx_types.specs.declared.stage.Stage.{Stage}
 pub use Rattle.rsx_types.specs.declared.stage.Stage.TheVariants.{Buffer, Distinct, Filter, Map, Scan, Take}
 pub use Rattle.rsx_values.specs.Concat.{concat, unless_open, value_then}
 pub use Rattle.rsx_values.specs.Delayed.{merge_delay, merge_delayed_inputs}
+pub use Rattle.rsx_values.specs.Eager.{eager, eager_of}
 pub use Rattle.rsx_values.specs.Flat.{expanded_items, flat_lane, flat_map, flat_map_delay, list_then}
 pub use Rattle.rsx_values.specs.Group.{first_seen, group_by, group_lane, group_lanes, keyed_items, keyed_then, keys_after, lane_ending, of_key, placed, see, tagged_items}
 pub use Rattle.rsx_values.specs.Lanes.{main_input, merged_lanes, merged_lanes_delay}

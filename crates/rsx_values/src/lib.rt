@@ -16,7 +16,8 @@
 //! these choices as runs. [`pick`] takes the signals of whole stream values in a recorded order, [`merge`] is what a `merge`
 //! of them gives, and [`concat`] what a `concat` does. These know nothing of nodes, queues and demand: they evaluate from
 //! scratch. [`merge_delay`] is `mergeDelayError`, a merge in which a failure ends its input alone and goes out behind all
-//! others; its definition is in `specs/Delayed`.
+//! others; its definition is in `specs/Delayed`. [`eager_of`] is `publishOnEager`, the one input, of which the failure may
+//! be taken past items before it; its definition is in `specs/Eager`.
 //!
 //! # zip and combineLatest
 //!
@@ -38,6 +39,7 @@
 
 pub mod concatenation;
 pub mod delaying;
+pub mod eager;
 pub mod flat;
 pub mod group;
 pub mod joining_law;
@@ -54,6 +56,7 @@ pub mod windowing;
 
 pub use concatenation::concat;
 pub use delaying::{ending_behind, first_cause, merge_delay, merge_delay_inputs};
+pub use eager::eager_of;
 pub use flat::{flat_map, flat_map_delay};
 pub use group::group_by;
 pub use latest::Latest;

@@ -44,6 +44,7 @@ pub struct NodeLook {
 #[derive(Clone, Copy, Debug, PartialEq, Eq)]
 pub enum Recorded {
     /// The input or the lane with this number: a node that picks took a signal of it, and a `zip` its ending.
+    /// Of a `publishOnEager` it is 0 for an item, and 1 for the failure.
     From(u64),
     /// The ending of its input: a `flatMap`, a `flatMapDelayError` or a `groupBy` picked it.
     Main,

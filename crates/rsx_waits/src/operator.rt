@@ -43,6 +43,8 @@ pub enum Operator {
     FlatMapDelay,
     /// `publishOn`: the input, on another worker.
     PublishOn,
+    /// `publishOnEager`: the same, but a failure may overtake items.
+    PublishOnEager,
     /// An operator of a caller's own.
     Own,
 }
@@ -75,6 +77,7 @@ impl fmt::Display for Operator {
             Operator::FlatMap => f.write_str("flatMap"),
             Operator::FlatMapDelay => f.write_str("flatMapDelayError"),
             Operator::PublishOn => f.write_str("publishOn"),
+            Operator::PublishOnEager => f.write_str("publishOnEager"),
             Operator::Own => f.write_str("operator"),
         }
     }

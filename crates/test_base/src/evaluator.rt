@@ -262,6 +262,59 @@ fn names_each_refusal(rt: HostRuntime) -> Result<(), Fail> {
     Ok(())
 }
 
+/// `publishOnEager` over 2, 3 and a failure.
+fn eager(alloc: Global) -> Result<Expr<Val>, NoMemory> {
+    let items = numbers(alloc, &[1, 2, i64::MAX])?;
+    let failing = plain(alloc, Stage::Map(INC), items)?;
+    Ok(Expr::OnEager(0, 4, Box::new(alloc, failing)?))
+}
+
+/// Whether its value under these choices is printed as this text, or the name of the refusal is.
+fn is_chosen(
+    alloc: Global,
+    expr: &Expr<Val>,
+    choices: &[u64],
+    text: &str,
+) -> Result<bool, NoMemory> {
+    let mut picks = Vec::new(alloc);
+    for choice in choices {
+        picks.push(*choice)?;
+    }
+    let mut notes = Vec::new(alloc);
+    notes.push(Note::Picks(Choices::new(picks)))?;
+    notes.push(Note::Nothing)?;
+    notes.push(Note::Nothing)?;
+    let shown = match scratch(alloc, &Demo, expr, &[], &[], notes.as_slice()) {
+        Ok(value) => format!(in alloc; "{:?} {:?}", value.items(), value.ending())?,
+        Err(refusal) => format!(in alloc; "{}", refusal.name())?,
+    };
+    Ok(shown.as_str() == text)
+}
+
+/// Choices of it, with the text of the value under them.
+const CHOSEN: [(&[u64], &str); 10] = [
+    (&[], "[2, 3] Failed(Function(1))"),
+    (&[0], "[2, 3] Failed(Function(1))"),
+    (&[0, 0], "[2, 3] Failed(Function(1))"),
+    (&[1], "[] Failed(Function(1))"),
+    (&[0, 1], "[2] Failed(Function(1))"),
+    (&[0, 0, 1], "[2, 3] Failed(Function(1))"),
+    (&[0, 0, 0], "M2"),
+    (&[1, 0], "M2"),
+    (&[0, 1, 1], "M2"),
+    (&[2], "M2"),
+];
+
+#[test]
+fn a_failure_overtakes_what_was_not_chosen(rt: HostRuntime) -> Result<(), Fail> {
+    let alloc = rt.alloc();
+    let expr = eager(alloc)?;
+    for (choices, text) in &CHOSEN {
+        assert!(rt; is_chosen(alloc, &expr, choices, text)?, "{text}");
+    }
+    Ok(())
+}
+
 /// Whether a kind of bad expression has this number and this text.
 fn is_kind(alloc: Global, kind: BadExpr, text: &str) -> Result<bool, NoMemory> {
     let shown = format!(in alloc; "{}: {kind}", kind.number())?;

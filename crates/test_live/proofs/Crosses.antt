@@ -41,7 +41,7 @@ module _ (T : RattleType) (items : IsSend T) where
             (search cross depth 60 fits 100000, tt),
             (
               (search cross depth 60 fits 100000, tt),
-              ((window, tt), ((search cross depth 60 fits 100000, tt), ((search cross depth 60 fits 100000, tt), ((group_by, tt), tt)))),
+              ((search cross depth 60 fits 100000, tt), ((window, tt), ((search cross depth 60 fits 100000, tt), ((search cross depth 60 fits 100000, tt), ((group_by, tt), tt))))),
             ),
           ),
         ),

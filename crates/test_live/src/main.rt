@@ -34,8 +34,8 @@ use std::sync::Wait;
 use std::thread::Threads;
 use std::time::Clock;
 
-/// The expressions. Each has an edge that crosses. The last eight choose between what they have to put out.
-const EXPRESSIONS: [&'static str; 21] = [
+/// The expressions. Each has an edge that crosses. The last nine choose between what they have to put out.
+const EXPRESSIONS: [&'static str; 22] = [
     "(publishOn 1 2 (range 1 6))",
     "(publishOn 0 2 (publishOn 1 2 (range 1 9)))",
     "(publishOn 1 3 (map double (publishOn 2 2 (filter even (range 1 9)))))",
@@ -57,6 +57,7 @@ const EXPRESSIONS: [&'static str; 21] = [
     "(publishOn 2 2 (flatMap upto 1 () (publishOn 1 1 (range 1 4))))",
     "(publishOn 1 2 (groupBy mod3 ((map inc)) (publishOn 2 3 (range 1 9))))",
     "(groupBy mod3 ((scan add 0)) (merge 2 (publishOn 1 2 (range 1 9)) (publishOn 2 2 (items 4 5 6))))",
+    "(publishOnEager 1 4 (map inc (publishOn 2 4 (items 1 2 3 9223372036854775807 4))))",
 ];
 
 /// Tries all expressions, and writes a line for each.

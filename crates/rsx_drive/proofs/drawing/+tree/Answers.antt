@@ -1,7 +1,7 @@
 use Rattle.std.proofs.Common.{◌≡◌, ◌+◌, map, refl, arith}
 use Rattle.std.specs.String.{string_bytes}
-use Rattle.rsx_model.specs.declared.expr.Expr.TheViews.{outs-MergeDelay, outs-Zip, outs-Latest, outs-Group, outs-Window, outs-Flat, outs-FlatDelay, outs-On}
-use Rattle.rsx_script.specs.Orders.{tree_of, trees_of, merge_delay, zip, latest, group, window, flat, flat_delay, on}
+use Rattle.rsx_model.specs.declared.expr.Expr.TheViews.{outs-MergeDelay, outs-Zip, outs-Latest, outs-Group, outs-Window, outs-Flat, outs-FlatDelay, outs-On, outs-OnEager}
+use Rattle.rsx_script.specs.Orders.{tree_of, trees_of, merge_delay, zip, latest, group, window, flat, flat_delay, on, on_eager}
 use Rattle.rsx_drive.specs.Drawn.{all_rows_text, row_text, rows_text}
 use Rattle.rsx_drive.proofs.Drawings.{nodes_more, put_on, rows_more, tree_out}
 use Rattle.rsx_drive.proofs.drawing.+tree.Goals as goal
@@ -77,6 +77,15 @@ add_tree-returns-in-On-clause-added t c =
     let shape : tree_of c.args.expr.now ≡ on c.in-On.field-0 c.in-On.field-1 (tree_of c.in-On.below.value) = rw c.in-On.is (rw (tree_out, outs-On) refl) in
     put_on c.add_tree-in-On.result (string_bytes c.args.text.now) (string_bytes c.add_row.new.text) (string_bytes c.add_tree-in-On.new.text) (row_text d n expr) (rows_text (d + 1) (n + 1) (tree_of c.deref-in-On.result.now)) (rows_text d n expr)
     c.in_ok-add_row.ensures.added (rw (shape, c.deref-in-On.ensures) refl) c.add_tree-in-On.ensures.added
+
+pub add_tree-returns-in-OnEager-clause-added : goal.add_tree-returns-in-OnEager-clause-added
+add_tree-returns-in-OnEager-clause-added t c =
+    let d = c.args.depth in
+    let n = c.args.number in
+    let expr = tree_of c.args.expr.now in
+    let shape : tree_of c.args.expr.now ≡ on_eager c.in-OnEager.field-0 c.in-OnEager.field-1 (tree_of c.in-OnEager.below.value) = rw c.in-OnEager.is (rw (tree_out, outs-OnEager) refl) in
+    put_on c.add_tree-in-OnEager.result (string_bytes c.args.text.now) (string_bytes c.add_row.new.text) (string_bytes c.add_tree-in-OnEager.new.text) (row_text d n expr) (rows_text (d + 1) (n + 1) (tree_of c.deref-in-OnEager.result.now)) (rows_text d n expr)
+    c.in_ok-add_row.ensures.added (rw (shape, c.deref-in-OnEager.ensures) refl) c.add_tree-in-OnEager.ensures.added
 
 pub add_trees-loop-expr-preserved : goal.add_trees-loop-expr-preserved
 add_trees-loop-expr-preserved t c =

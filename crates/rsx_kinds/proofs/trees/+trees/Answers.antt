@@ -9,8 +9,9 @@ use Rattle.rsx_kinds.proofs.FlatMapDelays.{flat_delay_if}
 use Rattle.rsx_kinds.proofs.FlatMaps.{flat_if}
 use Rattle.rsx_kinds.proofs.GroupBys.{group_if}
 use Rattle.rsx_kinds.proofs.Made.{in_front_built, several_over}
-use Rattle.rsx_kinds.proofs.Placings.{crossed_placed, in_front_placed, placed_Concat, placed_Flat, placed_FlatDelay, placed_Group, placed_Hub, placed_Items, placed_Latest, placed_Merge, placed_MergeDelay, placed_On, placed_Plain, placed_Range, placed_Window, placed_Zip, placed_crossed}
+use Rattle.rsx_kinds.proofs.Placings.{crossed_placed, in_front_placed, placed_Concat, placed_Flat, placed_FlatDelay, placed_Group, placed_Hub, placed_Items, placed_Latest, placed_Merge, placed_MergeDelay, placed_On, placed_OnEager, placed_Plain, placed_Range, placed_Window, placed_Zip, placed_crossed}
 use Rattle.rsx_kinds.proofs.PublishOn.{publish_on_if}
+use Rattle.rsx_kinds.proofs.PublishOnEager.{publish_on_eager_if}
 use Rattle.rsx_kinds.proofs.Rows.{split}
 use Rattle.rsx_kinds.proofs.Several.{built_concat, built_latest, built_merge, built_merge_delay, built_zip, limits_Concat, limits_Latest, limits_Merge, limits_MergeDelay, limits_Zip}
 use Rattle.rsx_kinds.proofs.Windows.{window_if}
@@ -112,6 +113,13 @@ build-returns-in_ok-below-in-On-clause-built g t c =
     publish_on_if m c.args.hubs.now (length c.args.hubs.now) c.args.expr.now c.in-On.worker c.in-On.prefetch c.in-On.input e c.in_ok-below-in-On.below c.publish_on.result c.over_one-in-On.result
     c.in-On.is c.deref-in-On.ensures c.requires (crossed_built m c.args.hubs.now e c.build-made.result _ c.in_ok-below-in-On.below c.build-made.ensures.built c.in_ok-below-in-On.ensures) c.publish_on.ensures c.over_one-in-On.ensures
 
+pub build-returns-in_ok-below-in-OnEager-clause-built : goal.build-returns-in_ok-below-in-OnEager-clause-built
+build-returns-in_ok-below-in-OnEager-clause-built g t c =
+    let m = g.O.Ops.meaning c.args.ops.now in
+    let e = c.deref-in-OnEager.result.now in
+    publish_on_eager_if m c.args.hubs.now (length c.args.hubs.now) c.args.expr.now c.in-OnEager.worker c.in-OnEager.prefetch c.in-OnEager.input e c.in_ok-below-in-OnEager.below c.publish_on_eager.result c.over_one-in-OnEager.result
+    c.in-OnEager.is c.deref-in-OnEager.ensures c.requires (crossed_built m c.args.hubs.now e c.build-made-in-OnEager.result _ c.in_ok-below-in-OnEager.below c.build-made-in-OnEager.ensures.built c.in_ok-below-in-OnEager.ensures) c.publish_on_eager.ensures c.over_one-in-OnEager.ensures
+
 pub build_over-returns-clause-built : goal.build_over-returns-clause-built
 build_over-returns-clause-built g t c =
     let m = g.O.Ops.meaning c.args.ops.now in
@@ -198,6 +206,14 @@ build-returns-in_ok-below-in-On-clause-placed g t c =
     let region = c.region_of.ensures ∙ ap region_of (c.deref-in-On-2.ensures ∙ sym c.deref-in-On.ensures) in
     let below = subst P region (placed_crossed e c.build-made.result (differ c.in-On.worker c.region_of.result) c.in_ok-below-in-On.below c.build-made.ensures.placed c.in_ok-below-in-On.ensures) in
     placed_On c.args.expr.now c.in-On.worker c.in-On.prefetch c.in-On.input e c.publish_on.result c.in_ok-below-in-On.below c.over_one-in-On.result c.in-On.is c.deref-in-On.ensures below c.over_one-in-On.ensures
+
+pub build-returns-in_ok-below-in-OnEager-clause-placed : goal.build-returns-in_ok-below-in-OnEager-clause-placed
+build-returns-in_ok-below-in-OnEager-clause-placed g t c =
+    let e = c.deref-in-OnEager.result.now in
+    let P : ℕ → Type 0 = λ r. IsPlaced e (differ c.in-OnEager.worker r) c.in_ok-below-in-OnEager.below in
+    let region = c.region_of-in-OnEager.ensures ∙ ap region_of (c.deref-in-OnEager-2.ensures ∙ sym c.deref-in-OnEager.ensures) in
+    let below = subst P region (placed_crossed e c.build-made-in-OnEager.result (differ c.in-OnEager.worker c.region_of-in-OnEager.result) c.in_ok-below-in-OnEager.below c.build-made-in-OnEager.ensures.placed c.in_ok-below-in-OnEager.ensures) in
+    placed_OnEager c.args.expr.now c.in-OnEager.worker c.in-OnEager.prefetch c.in-OnEager.input e c.publish_on_eager.result c.in_ok-below-in-OnEager.below c.over_one-in-OnEager.result c.in-OnEager.is c.deref-in-OnEager.ensures below c.over_one-in-OnEager.ensures
 
 pub build_inputs-returns-in_ok-beside-in-Some-clause-placed : goal.build_inputs-returns-in_ok-beside-in-Some-clause-placed
 build_inputs-returns-in_ok-beside-in-Some-clause-placed g t c =

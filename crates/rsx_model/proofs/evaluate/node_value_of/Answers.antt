@@ -3,7 +3,7 @@ use Rattle.std.proofs.lemmas.Int.{to_z-of_z}
 use Rattle.std.proofs.lemmas.Option.{slice_get_read}
 use mir.Val.{SFits}
 use mir.Syntax.{w64}
-use Rattle.rsx_model.specs.declared.expr.Expr.TheViews.{outs-Items, outs-Range, outs-Hub, outs-Plain, outs-Concat, outs-Merge, outs-MergeDelay, outs-Zip, outs-Latest, outs-Group, outs-Window, outs-Flat, outs-FlatDelay, outs-On}
+use Rattle.rsx_model.specs.declared.expr.Expr.TheViews.{outs-Items, outs-Range, outs-Hub, outs-Plain, outs-Concat, outs-Merge, outs-MergeDelay, outs-Zip, outs-Latest, outs-Group, outs-Window, outs-Flat, outs-FlatDelay, outs-On, outs-OnEager}
 use Rattle.rsx_model.specs.Check.{first_fault}
 use Rattle.rsx_model.specs.Eval.{environment, meant}
 use Rattle.rsx_model.specs.Shape.{leaves}
@@ -102,3 +102,10 @@ returns-in-On g c =
     let note : slice_get c.args.notes.now c.args.at ≡ Some c.index-notes-at.result = slice_get_read c.args.notes.now (length c.args.notes.now) c.args.at c.index-notes-at.result refl c.requires.noted c.index-notes-at.is in
     let below = rw (c.in-On.is, outs-On) at c.requires.below in
     rw (value_out, c.in-On.is, outs-On, note) (c.if_quiet-in-On.ensures _ (c.only_of.ensures ((meant w c.in-On.field-2.value).value (c.args.at + 1) c.args.leaf) below))
+
+pub returns-in-OnEager : goal.returns-in-OnEager
+returns-in-OnEager g c =
+    let w = environment (g.O.Ops.meaning c.args.ops.now) c.args.hubs.now c.args.joins.now c.args.notes.now in
+    let note : slice_get c.args.notes.now c.args.at ≡ Some c.index-notes-at.result = slice_get_read c.args.notes.now (length c.args.notes.now) c.args.at c.index-notes-at.result refl c.requires.noted c.index-notes-at.is in
+    let below = rw (c.in-OnEager.is, outs-OnEager) at c.requires.below in
+    rw (value_out, c.in-OnEager.is, outs-OnEager, note) (c.on_eager_of.ensures ((meant w c.in-OnEager.field-2.value).value (c.args.at + 1) c.args.leaf) below)

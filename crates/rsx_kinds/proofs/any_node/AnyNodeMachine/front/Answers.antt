@@ -21,5 +21,8 @@ returns-in-FlatMap g c = record { shown = rw c.in-FlatMap.is c.front-in-FlatMap.
 pub returns-in-FlatMapDelay : goal.returns-in-FlatMapDelay
 returns-in-FlatMapDelay g c = record { shown = rw c.in-FlatMapDelay.is c.front-in-FlatMapDelay.ensures.shown; first = λ m. rw c.in-FlatMapDelay.is (c.front-in-FlatMapDelay.ensures.first m) }
 
+pub returns-in-PublishOnEager : goal.returns-in-PublishOnEager
+returns-in-PublishOnEager g c = record { shown = rw c.in-PublishOnEager.is c.front-in-PublishOnEager.ensures.shown; first = λ m. rw c.in-PublishOnEager.is (c.front-in-PublishOnEager.ensures.first m) }
+
 pub returns-in-GroupBy : goal.returns-in-GroupBy
 returns-in-GroupBy g c = record { shown = rw c.in-GroupBy.is c.front-in-GroupBy.ensures.shown; first = λ m. rw c.in-GroupBy.is (c.front-in-GroupBy.ensures.first m) }

@@ -1,7 +1,7 @@
 use Rattle.std.proofs.Common.{ap, refl}
 use Rattle.std.proofs.lemmas.Result.{on_ok_weaker, on_err_weaker}
-use Rattle.rsx_kinds.specs.declared.any_node.AnyNode.TheVariants.{Several, FlatMap, FlatMapDelay, GroupBy}
-use Rattle.rsx_kinds.proofs.Dispatch.{stepped_several, stepped_flat_map, stepped_flat_map_delay, stepped_group_by}
+use Rattle.rsx_kinds.specs.declared.any_node.AnyNode.TheVariants.{Several, PublishOnEager, FlatMap, FlatMapDelay, GroupBy}
+use Rattle.rsx_kinds.proofs.Dispatch.{stepped_several, stepped_flat_map, stepped_flat_map_delay, stepped_publish_on_eager, stepped_group_by}
 use Rattle.rsx_kinds.proofs.any_node.AnyNodeMachine.on_pick.Goals as goal
 
 pub returns-in-Several-clause-ok : goal.returns-in-Several-clause-ok
@@ -37,6 +37,19 @@ returns-in-FlatMapDelay g c = rw c.in-FlatMapDelay.is (record {
   memory = λ e. cc;
   alike = (refl, (refl, λ a. (refl, refl, refl)));
   same = on_err_weaker c.on_pick-in-FlatMapDelay.result (λ e. ap FlatMapDelay e) c.on_pick-in-FlatMapDelay.ensures.same;
+})
+
+pub returns-in-PublishOnEager : goal.returns-in-PublishOnEager
+returns-in-PublishOnEager g c = rw c.in-PublishOnEager.is (record {
+  ok = c.on_pick-in-PublishOnEager.ensures.ok;
+  enabled = c.on_pick-in-PublishOnEager.ensures.enabled;
+  recorded = c.on_pick-in-PublishOnEager.ensures.recorded;
+  composes = c.on_pick-in-PublishOnEager.ensures.composes;
+  counts = on_ok_weaker c.on_pick-in-PublishOnEager.result (stepped_publish_on_eager c.in-PublishOnEager.node c.on_pick-in-PublishOnEager.new.self) c.on_pick-in-PublishOnEager.ensures.counts;
+  err = c.on_pick-in-PublishOnEager.ensures.err;
+  memory = λ e. c.on_pick-in-PublishOnEager.ensures.memory;
+  alike = (refl, (refl, λ a. (refl, refl, refl)));
+  same = on_err_weaker c.on_pick-in-PublishOnEager.result (λ e. ap PublishOnEager e) c.on_pick-in-PublishOnEager.ensures.same;
 })
 
 pub returns-in-GroupBy : goal.returns-in-GroupBy

@@ -1,7 +1,7 @@
 use Rattle.std.proofs.Common.{ap, refl}
 use Rattle.std.proofs.lemmas.Result.{on_ok_weaker, on_err_weaker}
-use Rattle.rsx_kinds.specs.declared.any_node.AnyNode.TheVariants.{Several, PublishOn, Window, FlatMap, FlatMapDelay, GroupBy}
-use Rattle.rsx_kinds.proofs.Dispatch.{taken_several, taken_publish_on, taken_window, taken_flat_map, taken_flat_map_delay, taken_group_by}
+use Rattle.rsx_kinds.specs.declared.any_node.AnyNode.TheVariants.{Several, PublishOn, PublishOnEager, Window, FlatMap, FlatMapDelay, GroupBy}
+use Rattle.rsx_kinds.proofs.Dispatch.{taken_several, taken_publish_on, taken_window, taken_flat_map, taken_flat_map_delay, taken_publish_on_eager, taken_group_by}
 use Rattle.rsx_kinds.proofs.any_node.AnyNodeMachine.on_signal.Goals as goal
 
 pub returns-in-Several : goal.returns-in-Several
@@ -62,6 +62,18 @@ returns-in-FlatMapDelay g c = rw c.in-FlatMapDelay.is (record {
   memory = λ e. cc;
   alike = (refl, (refl, λ a. (refl, refl, refl)));
   same = on_err_weaker c.on_signal-in-FlatMapDelay.result (λ e. ap FlatMapDelay e) c.on_signal-in-FlatMapDelay.ensures.same;
+})
+
+pub returns-in-PublishOnEager : goal.returns-in-PublishOnEager
+returns-in-PublishOnEager g c = rw c.in-PublishOnEager.is (record {
+  ok = c.on_signal-in-PublishOnEager.ensures.ok;
+  enabled = c.on_signal-in-PublishOnEager.ensures.enabled;
+  recorded = c.on_signal-in-PublishOnEager.ensures.recorded;
+  counts = on_ok_weaker c.on_signal-in-PublishOnEager.result (taken_publish_on_eager c.in-PublishOnEager.node c.on_signal-in-PublishOnEager.new.self c.args.input c.args.signal) c.on_signal-in-PublishOnEager.ensures.counts;
+  err = c.on_signal-in-PublishOnEager.ensures.err;
+  memory = λ e. c.on_signal-in-PublishOnEager.ensures.memory;
+  alike = (refl, (refl, λ a. (refl, refl, refl)));
+  same = on_err_weaker c.on_signal-in-PublishOnEager.result (λ e. ap PublishOnEager e) c.on_signal-in-PublishOnEager.ensures.same;
 })
 
 pub returns-in-GroupBy : goal.returns-in-GroupBy

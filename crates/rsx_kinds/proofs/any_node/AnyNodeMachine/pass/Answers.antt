@@ -1,4 +1,4 @@
-use Rattle.rsx_kinds.proofs.Dispatch.{passed_plain, passed_several, passed_publish_on, passed_window, passed_flat_map, passed_flat_map_delay, passed_group_by}
+use Rattle.rsx_kinds.proofs.Dispatch.{passed_plain, passed_several, passed_publish_on, passed_window, passed_flat_map, passed_flat_map_delay, passed_publish_on_eager, passed_group_by}
 use Rattle.rsx_kinds.proofs.any_node.AnyNodeMachine.pass.Goals as goal
 
 pub returns-in-Plain-clause-passed : goal.returns-in-Plain-clause-passed
@@ -24,6 +24,10 @@ returns-in-FlatMap-clause-passed g c =
 pub returns-in-FlatMapDelay-clause-passed : goal.returns-in-FlatMapDelay-clause-passed
 returns-in-FlatMapDelay-clause-passed g c =
     rw c.in-FlatMapDelay.is (passed_flat_map_delay (g.O.Ops.meaning c.args.ops.now) c.in-FlatMapDelay.node c.pass-in-FlatMapDelay.new.self c.args.input c.args.item c.pass-in-FlatMapDelay.result c.pass-in-FlatMapDelay.ensures.passed)
+
+pub returns-in-PublishOnEager-clause-passed : goal.returns-in-PublishOnEager-clause-passed
+returns-in-PublishOnEager-clause-passed g c =
+    rw c.in-PublishOnEager.is (passed_publish_on_eager (g.O.Ops.meaning c.args.ops.now) c.in-PublishOnEager.node c.pass-in-PublishOnEager.new.self c.args.input c.args.item c.pass-in-PublishOnEager.result c.pass-in-PublishOnEager.ensures.passed)
 
 pub returns-in-GroupBy-clause-passed : goal.returns-in-GroupBy-clause-passed
 returns-in-GroupBy-clause-passed g c =

@@ -1,5 +1,5 @@
 use Rattle.std.proofs.lemmas.Result.{IfOk-weaker}
-use Rattle.rsx_kinds.proofs.Dispatch.{popped_source, popped_several, popped_publish_on, popped_window, popped_flat_map, popped_flat_map_delay, popped_group_by, counted_source, counted_several, counted_publish_on, counted_window, counted_flat_map, counted_flat_map_delay, counted_group_by}
+use Rattle.rsx_kinds.proofs.Dispatch.{popped_source, popped_several, popped_publish_on, popped_window, popped_flat_map, popped_flat_map_delay, popped_publish_on_eager, popped_group_by, counted_source, counted_several, counted_publish_on, counted_window, counted_flat_map, counted_flat_map_delay, counted_publish_on_eager, counted_group_by}
 use Rattle.rsx_kinds.proofs.any_node.AnyNodeMachine.pop_front.Goals as goal
 
 pub returns-in-Source-clause-ok : goal.returns-in-Source-clause-ok
@@ -42,6 +42,10 @@ pub returns-in-FlatMapDelay-clause-ok : goal.returns-in-FlatMapDelay-clause-ok
 returns-in-FlatMapDelay-clause-ok g c =
     rw c.in-FlatMapDelay.is (IfOk-weaker c.pop_front-in-FlatMapDelay.result _ _ (λ s. popped_flat_map_delay (g.O.Ops.meaning c.args.ops.now) c.in-FlatMapDelay.node c.pop_front-in-FlatMapDelay.new.self s) c.pop_front-in-FlatMapDelay.ensures.ok)
 
+pub returns-in-PublishOnEager-clause-ok : goal.returns-in-PublishOnEager-clause-ok
+returns-in-PublishOnEager-clause-ok g c =
+    rw c.in-PublishOnEager.is (IfOk-weaker c.pop_front-in-PublishOnEager.result _ _ (λ s. popped_publish_on_eager (g.O.Ops.meaning c.args.ops.now) c.in-PublishOnEager.node c.pop_front-in-PublishOnEager.new.self s) c.pop_front-in-PublishOnEager.ensures.ok)
+
 pub returns-in-FlatMap-clause-counts : goal.returns-in-FlatMap-clause-counts
 returns-in-FlatMap-clause-counts g c =
     rw c.in-FlatMap.is (IfOk-weaker c.pop_front-in-FlatMap.result _ _ (λ s. counted_flat_map c.in-FlatMap.node c.pop_front-in-FlatMap.new.self s) c.pop_front-in-FlatMap.ensures.counts)
@@ -49,6 +53,10 @@ returns-in-FlatMap-clause-counts g c =
 pub returns-in-FlatMapDelay-clause-counts : goal.returns-in-FlatMapDelay-clause-counts
 returns-in-FlatMapDelay-clause-counts g c =
     rw c.in-FlatMapDelay.is (IfOk-weaker c.pop_front-in-FlatMapDelay.result _ _ (λ s. counted_flat_map_delay c.in-FlatMapDelay.node c.pop_front-in-FlatMapDelay.new.self s) c.pop_front-in-FlatMapDelay.ensures.counts)
+
+pub returns-in-PublishOnEager-clause-counts : goal.returns-in-PublishOnEager-clause-counts
+returns-in-PublishOnEager-clause-counts g c =
+    rw c.in-PublishOnEager.is (IfOk-weaker c.pop_front-in-PublishOnEager.result _ _ (λ s. counted_publish_on_eager c.in-PublishOnEager.node c.pop_front-in-PublishOnEager.new.self s) c.pop_front-in-PublishOnEager.ensures.counts)
 
 pub returns-in-GroupBy-clause-ok : goal.returns-in-GroupBy-clause-ok
 returns-in-GroupBy-clause-ok g c =

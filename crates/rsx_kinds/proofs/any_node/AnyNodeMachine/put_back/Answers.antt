@@ -1,6 +1,6 @@
 use Rattle.std.proofs.Common.{subst}
 use Rattle.rsx_kinds.specs.Prelude.{AnyNode, any_popped}
-use Rattle.rsx_kinds.proofs.Dispatch.{returned_plain, returned_publish_on, returned_several, returned_source, returned_window, returned_flat_map, returned_flat_map_delay, returned_group_by}
+use Rattle.rsx_kinds.proofs.Dispatch.{returned_plain, returned_publish_on, returned_several, returned_source, returned_window, returned_flat_map, returned_flat_map_delay, returned_publish_on_eager, returned_group_by}
 use Rattle.rsx_kinds.proofs.any_node.AnyNodeMachine.put_back.Goals as goal
 
 pub returns-in-Source : goal.returns-in-Source
@@ -37,6 +37,11 @@ pub returns-in-FlatMapDelay : goal.returns-in-FlatMapDelay
 returns-in-FlatMapDelay g c = λ before h.
     let P : AnyNode _ → Type 0 = λ t. any_popped before c.args.signal t in
     returned_flat_map_delay before c.args.signal c.in-FlatMapDelay.node c.put_back-in-FlatMapDelay.new.self (subst P c.in-FlatMapDelay.is h) c.put_back-in-FlatMapDelay.ensures
+
+pub returns-in-PublishOnEager : goal.returns-in-PublishOnEager
+returns-in-PublishOnEager g c = λ before h.
+    let P : AnyNode _ → Type 0 = λ t. any_popped before c.args.signal t in
+    returned_publish_on_eager before c.args.signal c.in-PublishOnEager.node c.put_back-in-PublishOnEager.new.self (subst P c.in-PublishOnEager.is h) c.put_back-in-PublishOnEager.ensures
 
 pub returns-in-GroupBy : goal.returns-in-GroupBy
 returns-in-GroupBy g c = λ before h.

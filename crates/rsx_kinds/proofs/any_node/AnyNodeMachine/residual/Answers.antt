@@ -18,5 +18,8 @@ returns-in-FlatMap g c = rw c.in-FlatMap.is c.residual-in-FlatMap.ensures
 pub returns-in-FlatMapDelay : goal.returns-in-FlatMapDelay
 returns-in-FlatMapDelay g c = rw c.in-FlatMapDelay.is c.residual-in-FlatMapDelay.ensures
 
+pub returns-in-PublishOnEager : goal.returns-in-PublishOnEager
+returns-in-PublishOnEager g c = rw c.in-PublishOnEager.is c.residual-in-PublishOnEager.ensures
+
 pub returns-in-GroupBy : goal.returns-in-GroupBy
 returns-in-GroupBy g c = rw c.in-GroupBy.is c.residual-in-GroupBy.ensures
