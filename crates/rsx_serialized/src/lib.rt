@@ -9,7 +9,8 @@
 //! - [`links`]: [`EmitterLink`] and [`TapLink`], a link with both of its ends.
 //! - [`opening`]: [`Opening`], what the gate of a graph keeps.
 //! - [`serialized`]: [`SerializedGraph`], the graph behind its gate: [`SerializedGraph::new`], [`SerializedGraph::poke`], by which a thread
-//!   works on it, and [`SerializedGraph::stop`], by which it comes back.
+//!   works on it, [`SerializedGraph::split`] and [`SerializedGraph::join`], by which each such thread has a seat of its own, and
+//!   [`SerializedGraph::stop`], by which it comes back.
 //!
 //! A subscriber that asked for more than it takes holds the whole graph up: while what was delivered to it finds no room in the queue of
 //! its link, nothing is moved.

@@ -30,8 +30,9 @@ pub struct SerializedGraph<O: Ops> {
 }
 
 impl<O: Ops> SerializedGraph<O> {
-    ghost use Rattle.std.specs.Prelude.{◌≡◌, ◌≤◌, IfErr, IfOk};
-    ghost use Rattle.rsx_gate.specs.Machine.{all_parts};
+    ghost use Rattle.std.specs.Prelude.{◌≡◌, ◌≤◌, ◌<◌, IfErr, IfOk, Some};
+    ghost use Rattle.rsx_gate.specs.Machine.{all_parts, newcomer};
+    ghost use Rattle.rsx_gate.specs.Plays.{fewer, joined};
     ghost use Rattle.rsx_gate.specs.Seats.{IsSeatOf, key_of};
     ghost use Rattle.rsx_runtime.specs.Poking.{Went};
     ghost use Rattle.rsx_serialized.specs.Opened.{HasStopped, IsOpened};
@@ -59,6 +60,33 @@ impl<O: Ops> SerializedGraph<O> {
             Ok((gate, seat)) => Ok((SerializedGraph { gate, links }, seat)),
             Err(region) => Err((region, links)),
         }
+    }
+
+    /// The links of the emitters and the taps, for threads that work at their ends alone.
+    pub fn links(&self) -> &Links<O::Item>
+        ensures { result.now ≡ self.now.links }
+    {
+        &self.links
+    }
+
+    /// A new seat, for another thread to poke by, which has made no step. It has one part, which comes from the old seat; that must have
+    /// another one left. The old seat is the same but for that part, and keeps its steps.
+    pub fn split(&self, seat: &mut GraphSeat<O>) -> GraphSeat<O>
+        requires seat { IsSeatOf self.now.gate seat.old }
+        requires parts { 1 < seat.old.me.0.parts }
+        ensures old { IsSeatOf self.now.gate seat.new × (seat.new.id ≡ seat.old.id) × (seat.new.me.0 ≡ fewer seat.old.me.0) }
+        ensures new { IsSeatOf self.now.gate result × (result.me.0 ≡ newcomer (Some (key_of self.now.gate))) }
+    {
+        self.gate.split(seat)
+    }
+
+    /// Ends a seat, once its thread pokes no more. Its parts and its lists of steps go to the first seat, which stays the same else and
+    /// keeps its own steps apart from them.
+    pub fn join(&self, seat: &mut GraphSeat<O>, other: GraphSeat<O>)
+        requires { IsSeatOf self.now.gate seat.old × IsSeatOf self.now.gate other }
+        ensures { IsSeatOf self.now.gate seat.new × (seat.new.id ≡ seat.old.id) × (seat.new.me.0 ≡ joined seat.old.me.0 other.me.0) }
+    {
+        self.gate.join(seat, other);
     }
 
     /// Ends the gate, and gives the graph back between its links, by a seat that has all parts. Whatever all threads did, in any order, it

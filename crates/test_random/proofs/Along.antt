@@ -37,3 +37,12 @@ module _ {X Y : Type 0} (xs : List X) (ys : List Y) (k : ℕ) (y : Y) (less : k 
       let here : slice_get xs k ≡ Some x = slice_get_read xs (length ys) k x long less is in
       let b = beside P h in
       beside_set P P xs ys k z (λ w f. let same : x ≡ w = cc in (e ∙ b.2.0, subst (λ (u : X). Q u z) same q)) (λ j w v apart f d p. p) h
+
+  -- what was read beside it stands at its number
+  pub own_read : (number : Y → ℕ) (Q : X → Y → Type 0) (x : X) → x ≡ get_or xs k x → Beside (λ j w v. (number v ≡ j) × Q w v) xs ys → (slice_get xs (number y) ≡ Some x) × Q x y
+  own_read number Q x is h =
+      let long = h.count in
+      let here : slice_get xs k ≡ Some x = slice_get_read xs (length ys) k x long less is in
+      let b = beside (λ j w v. (number v ≡ j) × Q w v) h in
+      let same : b.0 ≡ x = cc in
+      (ap (slice_get xs) b.2.0 ∙ here, subst (λ (w : X). Q w y) same b.2.1)

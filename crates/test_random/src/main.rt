@@ -9,31 +9,39 @@
 //! that names the kind of tree, the seed and the step.
 //!
 //! Before that it writes what calls of a graph come to that are made again where memory is refused for them; with a word as its
-//! argument, this alone. Then it drives graphs behind a gate ([`serialized`]), and writes a line of counts. Last it writes how many
-//! items come of some cases that `bench/graph.sh` times, and their sum; with five words it times such a case and does nothing else
-//! ([`timed`]).
+//! argument, this alone. Then it drives graphs behind a gate ([`serialized`]), and writes a line of counts. Then threads work on such
+//! graphs, and it writes a line for each kind of work ([`threaded`]); with the word `threads` as its argument, these alone. Last it writes
+//! how many items come of some cases that `bench/graph.sh` times, and their sum; with five words it times such a case and does nothing
+//! else ([`timed`]).
 
+mod beside;
 mod cases;
 mod driven;
+mod ends;
 mod integers;
 mod memory;
 mod numbers;
 mod opened;
 mod plans;
 mod serialized;
+mod shared;
+mod threaded;
 mod timed;
 mod trees;
 mod trial;
+mod work;
 
 use crate::memory::report;
 use crate::numbers::Numbers;
 use crate::serialized::try_runs;
+use crate::threaded::{GRAPHS, try_bad_requests, try_cancellers, try_numbers, try_threads};
 use crate::timed::{summed, time};
 use crate::trees::{KINDS, Kind, tree};
 use crate::trial::{Tally, Trial};
 use anyhow::{Result, bail};
 use std::alloc::Global;
 use std::env;
+use std::thread::Threads;
 
 /// How many trees are made of each kind.
 const TREES: u32 = 100;
@@ -92,7 +100,7 @@ fn sum_cases(rt: &(impl Print + AllocGlobal)) -> Result<()> {
 }
 
 /// Does all but the timing.
-fn try_all(rt: &(impl Print + AllocGlobal)) -> Result<()> {
+fn try_all<R: Print + AllocGlobal + Threads + Sync>(rt: &R) -> Result<()> {
     println!(rt; "{}", report(rt.alloc())?)?;
     for (name, kind) in &KINDS {
         let tally = try_kind(rt.alloc(), name, *kind)?;
@@ -106,7 +114,23 @@ fn try_all(rt: &(impl Print + AllocGlobal)) -> Result<()> {
         "graphs behind a gate: {} runs, {} signals sent by {} emitters, {} of {} signals given by {} taps, equal",
         done.runs, done.sent, done.emitters, done.given, done.received, done.taps
     )?;
+    try_on_threads(rt)?;
     sum_cases(rt)
+}
+
+/// Has threads work on graphs behind a gate, and writes a line for each kind of work.
+fn try_on_threads<R: Print + AllocGlobal + Threads + Sync>(rt: &R) -> Result<()> {
+    let received = try_numbers(rt, rt.alloc())?;
+    println!(rt; "a graph that four threads poke: {received} signals received, equal")?;
+    try_cancellers(rt, rt.alloc())?;
+    println!(rt; "{GRAPHS} graphs that four threads cancel: each cancelled, equal")?;
+    try_bad_requests(rt, rt.alloc())?;
+    println!(rt; "{GRAPHS} graphs with two bad requests: one error each, equal")?;
+    for threads in [2, 4, 8] {
+        try_threads(rt, rt.alloc(), threads)?;
+        println!(rt; "{GRAPHS} graphs that {threads} threads poke: equal")?;
+    }
+    Ok(())
 }
 
 /// The number of an argument, or this one where it is left out.
@@ -126,10 +150,13 @@ fn main(rt: HostRuntime) -> Result<()> {
             let rounds = number(words.next(), 1);
             time(&rt, items.as_str(), case.as_str(), count, budget, rounds)
         }
-        (Some(_), None) => {
-            println!(rt; "{}", report(rt.alloc())?)?;
-            Ok(())
-        }
+        (Some(word), None) => match word.as_str() {
+            "threads" => try_on_threads(&rt),
+            _ => {
+                println!(rt; "{}", report(rt.alloc())?)?;
+                Ok(())
+            }
+        },
         (None, _) => try_all(&rt),
     }
 }

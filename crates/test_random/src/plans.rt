@@ -81,6 +81,24 @@ impl Plan {
         })
     }
 
+    /// One hub with an emitter, and a subscription to this expression over it.
+    ///
+    /// # Errors
+    /// For want of memory, and where the text isn't an expression.
+    pub fn over_hub(alloc: Global, text: &str) -> Result<Plan> {
+        let mut kinds = Vec::new(alloc);
+        kinds.push(HubKind::Multicast)?;
+        let mut exprs = Vec::new(alloc);
+        exprs.push(parsed(alloc, text)?)?;
+        Ok(Plan {
+            emitters: 1,
+            kinds,
+            fed: HubKind::Multicast,
+            feed: None,
+            exprs,
+        })
+    }
+
     /// How many subscriptions there are.
     pub fn subs(&self) -> u32 {
         u32::try_from(self.exprs.len()).unwrap_or(0)
@@ -118,6 +136,11 @@ fn over_one(alloc: Global, numbers: &mut Numbers) -> Result<Expr<Val>> {
     let Some(text) = OVER_ONE.get(numbers.below(6) as usize) else {
         bail!("there is no such expression")
     };
+    parsed(alloc, text)
+}
+
+/// The expression with this text.
+fn parsed(alloc: Global, text: &str) -> Result<Expr<Val>> {
     match parse_expression(alloc, text.as_bytes()) {
         Ok(expr) => Ok(expr),
         Err(why) => bail!("{text}: {why}"),

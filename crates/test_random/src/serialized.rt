@@ -58,13 +58,13 @@ pub struct Done {
 
 /// What happened at the ends of the links.
 #[derive(Drop)]
-struct Told {
+pub struct Told {
     /// What the emitters sent.
-    sent: Log,
+    pub sent: Log,
     /// What the taps gave, and what was delivered behind that.
-    received: Log,
+    pub received: Log,
     /// The subscriptions whose taps made a bad request.
-    refused: Vec<u32>,
+    pub refused: Vec<u32>,
 }
 
 /// Makes a run for each seed.
@@ -194,7 +194,7 @@ fn publish(driven: &mut Driven<Demo>, hub: u32, numbers: &mut Numbers, sent: &mu
 
 /// Takes what remains on the links of the taps and what waits to be sent there, as received, and what remains on those of the emitters;
 /// and answers the graph and that.
-fn taken_out(
+pub fn taken_out(
     alloc: Global,
     opened: Opened<Demo>,
     plan: &Plan,
@@ -260,7 +260,7 @@ fn take_unpublished(opened: &mut Opened<Demo>, hub: u32, left: &mut Log) -> Resu
 ///
 /// # Errors
 /// Where what is left isn't that, or for want of memory.
-fn without(alloc: Global, plan: &Plan, sent: &Log, left: &Log) -> Result<Log> {
+pub fn without(alloc: Global, plan: &Plan, sent: &Log, left: &Log) -> Result<Log> {
     let mut published = Vec::new(alloc);
     for hub in 0..plan.emitters {
         let count = count(sent, hub).saturating_sub(count(left, hub));
@@ -310,7 +310,7 @@ fn copied(alloc: Global, signal: &Signal<Val>) -> Result<Signal<Val>> {
 ///
 /// # Errors
 /// Where a comparison differs, or for want of memory.
-fn compare(
+pub fn compare(
     alloc: Global,
     graph: &Graph<Demo>,
     plan: &Plan,
@@ -357,7 +357,7 @@ fn hub_values(
 }
 
 /// Cancels where a bad request was made, requests all else, publishes what is left and completes the hubs, and makes all moves.
-fn finish(
+pub fn finish(
     alloc: Global,
     graph: &mut Graph<Demo>,
     plan: &Plan,

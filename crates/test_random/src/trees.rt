@@ -50,6 +50,8 @@ pub enum Queued {
     CombineLatest,
     /// The one input, unchanged.
     PublishOn,
+    /// The one input, whose failure may overtake items.
+    PublishOnEager,
 }
 
 /// A kind of operator with lanes, each of which goes through a chain of plain operators.
@@ -79,7 +81,7 @@ pub enum Kind {
 }
 
 /// All kinds of nodes, each with the name that a script has for it.
-pub const KINDS: [(&'static str, Kind); 19] = [
+pub const KINDS: [(&'static str, Kind); 20] = [
     ("items", Kind::Leaf(Leaf::Items)),
     ("range", Kind::Leaf(Leaf::Range)),
     ("hub", Kind::Leaf(Leaf::Hub)),
@@ -99,6 +101,7 @@ pub const KINDS: [(&'static str, Kind); 19] = [
     ("groupBy", Kind::Laned(Laned::GroupBy)),
     ("flatMap", Kind::Laned(Laned::FlatMap)),
     ("flatMapDelayError", Kind::Laned(Laned::FlatMapDelay)),
+    ("publishOnEager", Kind::Queued(Queued::PublishOnEager)),
 ];
 
 /// A node of this kind over leaves that may have plain operators over them, with up to two operators of any kind over it.
@@ -233,6 +236,7 @@ fn queued_over(
         Queued::Zip => Ok(Expr::Zip(prefetch, inputs(alloc, numbers, below)?)),
         Queued::CombineLatest => Ok(Expr::Latest(prefetch, inputs(alloc, numbers, below)?)),
         Queued::PublishOn => Ok(Expr::On(1, prefetch, Box::new(alloc, below)?)),
+        Queued::PublishOnEager => Ok(Expr::OnEager(1, prefetch, Box::new(alloc, below)?)),
     }
 }
 

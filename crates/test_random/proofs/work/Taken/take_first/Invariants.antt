@@ -1,0 +1,5 @@
+use Rattle.test_random.specs.Ends.{AreTapsOf}
+use Rattle.test_random.proofs.work.Taken.take_first.Given as goal
+
+abbrev pub invariant-loop : goal.invariant-loop
+invariant-loop l = AreTapsOf l.links.items l.self.taps.items
