@@ -3,7 +3,7 @@ use Rattle.rsx_kinds.specs.Any.{any_machine}
 use Rattle.rsx_kinds.specs.Routes.{tree_nodes}
 use Rattle.rsx_graph.proofs.Laws.{any_laws}
 use Rattle.rsx_graph.specs.Kinds.{IsCancelledAt, IsMoved, IsRequestedAt, StandsFor, HasEnded, HasPumped as RowsPumped, IsMoveMade, LeadTo, Rows, Subscription, Feed}
-use Rattle.std.proofs.Common.{◌≡◌, ℕ, ◌<◌, ◌≤◌, ℤ, zero, suc, pos, negsuc, true, ◌++◌, List, [], ◌∷◌, length, map, slice_get, Option, Some, Result, Ok, Err, IfErr, IfOk, OnOk, OnErr, refl, ap, sym, ◌∙◌, subst, arith}
+use Rattle.std.proofs.Common.{◌≡◌, ℕ, ◌≤◌, ℤ, zero, suc, pos, negsuc, true, ◌++◌, List, [], ◌∷◌, length, map, slice_get, Option, Some, Result, Ok, Err, IfErr, IfOk, OnOk, OnErr, refl, ap, sym, ◌∙◌, subst}
 use Rattle.std.proofs.lemmas.List.{length-map, length-set}
 use Rattle.std.proofs.lemmas.Option.{same_Some}
 use Rattle.rsx_graph_moves.proofs.Keeping.{KeepHubs, lead_keep, moved_keep}

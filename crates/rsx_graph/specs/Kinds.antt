@@ -18,6 +18,7 @@ use Rattle.rsx_graph_state.specs.declared.feed.Feed as feed
 use Rattle.rsx_graph_state.specs.declared.refusal.Refusal.{Refusal}
 use Rattle.rsx_graph_state.specs.declared.step.Pumped.{Pumped}
 use Rattle.rsx_graph_moves.specs.Pumped.{Made}
+use Rattle.rsx_graph_moves.specs.declared.idle_set.IdleSet.{IdleSet}
 use Rattle.rsx_graph_moves.specs.Explained as Explained
 use Rattle.rsx_graph_moves.specs.FeedWaits as FeedWaits
 use Rattle.rsx_graph_moves.specs.Pictures as Pictures
@@ -29,6 +30,7 @@ use Rattle.rsx_graph_calls.specs.Looks as CallsLooks
 use Rattle.rsx_graph_moves.specs.Many as MovesMany
 use Rattle.rsx_graph_moves.specs.Moves as MovesMoves
 use Rattle.rsx_graph_moves.specs.Pumped as MovesPumped
+use Rattle.rsx_graph_moves.specs.Resting as MovesResting
 use Rattle.rsx_graph_moves.specs.Served as MovesServed
 use Rattle.rsx_graph_state.specs.Begun as RowsBegun
 use Rattle.rsx_graph_state.specs.Feeds as RowsFeeds
@@ -219,6 +221,12 @@ IsRequestedAt i n subs news o = RowsSubscriptions.IsRequestedAt any_machine i n 
 
 abbrev pub enabled_at : {T : Type 0} → Meaning T → List (Subscription T) → ℕ → Move → Bool
 enabled_at m subs n mv = RowsSubscriptions.enabled_at any_machine tree_nodes m subs n mv
+
+abbrev pub AreIdle : {T : Type 0} → Meaning T → IdleSet → List (Subscription T) → Type 0
+AreIdle m idle subs = MovesResting.AreIdle any_machine m idle subs
+
+pub AreIdle-prop : {T : Type 0} (m : Meaning T) (idle : IdleSet) (subs : List (Subscription T)) → IsProp (AreIdle m idle subs)
+AreIdle-prop m idle subs = MovesResting.AreIdle-prop any_machine m idle subs
 
 -- ---- of moves
 

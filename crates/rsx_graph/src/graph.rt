@@ -1,6 +1,6 @@
 //! A graph of hubs and subscriptions.
 
-ghost use Rattle.rsx_graph.specs.Kinds.{IsSubscribed, IsCancelledAt, IsRequestedAt, HasNotes, IsOwed};
+ghost use Rattle.rsx_graph.specs.Kinds.{AreIdle, AreIdle-prop, IsSubscribed, IsCancelledAt, IsRequestedAt, HasNotes, IsOwed};
 ghost use Rattle.std.specs.Prelude.{◌≡◌, ◌≢◌, ◌<◌, ◌≤◌, ◌++◌, ◌∷◌, [], length, OnOk, OnErr, IfOk, IfErr, IsOk, Some, true, false, pos, min};
 ghost use Rattle.rsx_pipe.specs.Built.{new_joins};
 ghost use Rattle.rsx_subscriber.specs.Delivered.{IsFull};
@@ -24,7 +24,7 @@ ghost use Rattle.rsx_graph_state.specs.declared.TheConstants.{MOST_HUBS, MOST_SU
 use crate::step::Step;
 use rsx_demand::UNBOUNDED;
 use rsx_graph_calls::{Regions, admit, cancel, joins, notes, owed, request, subscribe};
-use rsx_graph_moves::{make, pump};
+use rsx_graph_moves::{IdleSet, make, pump};
 use rsx_graph_state::{Answer, Feed, Pumped, Refusal};
 pub use rsx_graph_state::{MOST_HUBS, MOST_SUBSCRIPTIONS};
 use rsx_hub::Hub;
@@ -52,6 +52,8 @@ pub struct Graph<O: Ops> {
     pub(crate) joins: Vec<Vec<u64>>,
     /// The regions of the trees of the subscriptions and of the feeds.
     pub(crate) regions: Regions,
+    /// The subscriptions that are known to be idle, at which [`Graph::pump`] doesn't look.
+    pub(crate) idle: IdleSet,
     pub ghost few: { length subscriptions.items ≤ MOST_SUBSCRIPTIONS },
     pub ghost few_hubs: { length hubs.items ≤ MOST_HUBS },
     pub ghost named: { NameHubs (length hubs.items) feeds.items } by { NameHubs-prop (length hubs.items) feeds.items },
@@ -59,6 +61,7 @@ pub struct Graph<O: Ops> {
     pub ghost sent: { length regions.feed_senders.items ≡ length feeds.items },
     pub ghost joined: { length joins.items ≡ length subscriptions.items },
     pub ghost rooted: { length regions.roots.items ≡ length subscriptions.items },
+    pub ghost resting: { AreIdle (O.meaning ops) idle subscriptions.items } by { AreIdle-prop (O.meaning ops) idle subscriptions.items },
 }
 
 impl<O: Ops> Graph<O> {
@@ -79,6 +82,7 @@ impl<O: Ops> Graph<O> {
             subscriptions: Vec::new(alloc),
             joins: Vec::new(alloc),
             regions: Regions::new(alloc),
+            idle: IdleSet::new(),
         })
     }
 
@@ -121,7 +125,10 @@ impl<O: Ops> Graph<O> {
             expr,
             tree,
         ) {
-            Ok(id) => Ok(id),
+            Ok(id) => {
+                self.idle.remove(id);
+                Ok(id)
+            }
             Err(NoMemory) => Err(Refusal::NoMemory),
         }
     }
@@ -140,6 +147,7 @@ impl<O: Ops> Graph<O> {
         ensures err { IfErr result (λ r. (r ≡ Refusal.UnknownSub) × (length self.old.subscriptions.items ≤ sub.0)) }
         ensures same { OnErr result (state_of self.new ≡ state_of self.old) }
     {
+        self.idle.remove(sub);
         cancel(&mut self.subscriptions, sub)
     }
 
@@ -179,6 +187,7 @@ impl<O: Ops> Graph<O> {
         ensures err { IfErr result (λ r. (r ≡ Refusal.UnknownSub) × (length self.old.subscriptions.items ≤ sub.0)) }
         ensures same { OnErr result (state_of self.new ≡ state_of self.old) }
     {
+        self.idle.remove(sub);
         request(&mut self.subscriptions, sub, n)
     }
 
@@ -212,6 +221,7 @@ impl<O: Ops> Graph<O> {
         ensures same { OnErr result (state_of self.new ≡ state_of self.old) }
     {
         let ops = self.ops;
+        self.idle.wake(step);
         make(
             alloc,
             &ops,
@@ -264,6 +274,7 @@ impl<O: Ops> Graph<O> {
             &mut self.hubs,
             &mut self.feeds,
             &mut self.subscriptions,
+            &mut self.idle,
             budget,
             out,
         )

@@ -44,6 +44,7 @@ impl<O: Ops> Graph<O> {
         ensures same { OnErr result ((state_of self.new ≡ state_of self.old) × (out.new ≡ out.old)) }
     {
         let ops = self.ops;
+        self.idle.wake(step);
         make_many(
             alloc,
             &ops,

@@ -7,6 +7,7 @@ ghost use Rattle.rsx_graph_state.specs.declared.TheConstants.{MOST_HUBS, MOST_SU
 
 use crate::graph::Graph;
 use rsx_graph_calls::Regions;
+use rsx_graph_moves::IdleSet;
 use rsx_graph_state::Feed;
 use rsx_hub::Hub;
 use rsx_kinds::TreeNode;
@@ -91,6 +92,7 @@ impl<O: Ops> Pieces<O> {
             subscriptions: pieces.subs,
             joins: pieces.joins,
             regions: pieces.regions,
+            idle: IdleSet::new(),
         }
     }
 }

@@ -1,14 +1,14 @@
 -- Why nothing comes from a hub.
-use Rattle.std.proofs.Common.{◌≡◌, ℕ, zero, suc, ◌<◌, ◌^◌, Bool, true, false, ◌&&◌, List, [], ◌∷◌, length, Option, Some, None, option_map, slice_get, refl, ap, sym, ◌∙◌, subst, arith}
+use Rattle.std.proofs.Common.{◌≡◌, ◌<◌, ◌^◌, Bool, true, false, ◌&&◌, List, Option, Some, None, option_map, slice_get, refl, ap, sym, ◌∙◌, subst, arith}
 use Rattle.std.specs.Prelude.{is_none}
 use Rattle.rsx_types.specs.declared.names.HubId.{HubId}
 use Rattle.rsx_sources.specs.Prelude.{Accept, Complete, Error, Meaning, Move, Next, Signal, Tree, Feed as FeedOf, front_of}
 use Rattle.rsx_sources.specs.declared.machine.Front.{Front}
-use Rattle.rsx_sources.specs.declared.machine.Front.TheVariants.{Item, Completion, Failure}
+use Rattle.rsx_sources.specs.declared.machine.Front.TheVariants.{Item}
 use Rattle.rsx_sources.specs.declared.machine.Machine.{Ghosts as Machine}
 use Rattle.rsx_rooted.specs.declared.nodes.Nodes.{Ghosts as Nodes}
 use Rattle.rsx_subscriber.specs.Prelude.{IsNumbered, IsQuietInside, NodeMove, Send as NodeSend, inside_enabled, inside_node, next_out, route, tree_of}
-use Rattle.rsx_graph_state.specs.Prelude.{HubState, Rows, Subscription, accepts_in, all_have_room, can_accept, can_feed, feed_of, is_ready, place_of, rows_of, takes_next, waiting}
+use Rattle.rsx_graph_state.specs.Prelude.{HubState, Subscription, accepts_in, all_have_room, can_accept, can_feed, feed_of, is_ready, place_of, rows_of, takes_next, waiting}
 use Rattle.rsx_graph_state.specs.declared.feed.Feed.{Feed}
 use Rattle.rsx_pipe.specs.Part as Part
 use Rattle.rsx_subscriber.proofs.Names.{numbered_name}

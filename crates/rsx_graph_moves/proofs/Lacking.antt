@@ -1,6 +1,6 @@
 -- In the tree of an open subscription none of whose moves is enabled, and whose subscriber asked for more than it received, some node
 -- waits for a hub that is there.
-use Rattle.std.proofs.Common.{◌≡◌, ◌⊎◌, inl, inr, ℕ, zero, suc, ◌+◌, ◌<◌, ◌≤◌, Bool, true, false, ◌&&◌, List, [], ◌∷◌, ◌++◌, length, map, Option, Some, None, option_map, slice_get, refl, ap, sym, ◌∙◌, subst, arith}
+use Rattle.std.proofs.Common.{◌≡◌, inl, inr, ℕ, zero, suc, ◌<◌, ◌≤◌, Bool, true, false, ◌&&◌, List, [], ◌∷◌, ◌++◌, length, map, Option, Some, None, option_map, slice_get, refl, ap, sym, ◌∙◌, subst, arith}
 use Rattle.std.proofs.lemmas.List.{append-nil}
 use Rattle.std.proofs.lemmas.Bool.{both_ways}
 use Rattle.rsx_types.proofs.Options.{none_from_no_some}
@@ -23,7 +23,7 @@ use Rattle.rsx_subscriber.specs.declared.subscription.Subscription.{Subscription
 use Rattle.rsx_subscriber.proofs.Moves.{take_queued}
 use Rattle.rsx_tree.specs.declared.edge.EdgeState.TheVariants.{Ended}
 use Rattle.rsx_graph_moves.specs.Idle.{LacksAll}
-use Rattle.rsx_graph_moves.specs.Waiting.{Reads, Waits, WaitsIn, lacks}
+use Rattle.rsx_graph_moves.specs.Waiting.{Reads, Waits, WaitsIn}
 
 -- ---- something lacks
 

@@ -3,6 +3,7 @@ pub mod Driving
 pub mod FeedWaits
 pub mod HubWaits
 pub mod Idle
+pub mod IdleSets
 pub mod Keeping
 pub mod Lacking
 pub mod Leaves
@@ -10,6 +11,8 @@ pub mod Named
 pub mod Opened
 pub mod Pictures
 pub mod Quiet
+pub mod Readers
+pub mod Rest
 pub mod Serving
 pub mod Times
 pub mod Turns

@@ -1,5 +1,5 @@
 -- What is so of a subscriber that waits.
-use Rattle.std.proofs.Common.{◌≡◌, ◌⊎◌, inl, inr, ap, arith, Bool, true, ◌||◌, ◌-◌, ℕ, zero, suc, false, List, [], ◌∷◌, Option, None, Some, slice_get, refl, sym, subst, ◌∙◌}
+use Rattle.std.proofs.Common.{◌≡◌, inl, inr, ap, arith, Bool, true, ◌||◌, ◌-◌, ℕ, zero, suc, false, List, [], ◌∷◌, Option, None, Some, slice_get, refl, sym, subst, ◌∙◌}
 use Rattle.std.specs.Prelude.{OnSome}
 use Rattle.std.proofs.lemmas.Bool.{both_ways}
 use Rattle.rsx_sources.specs.Prelude.{Accept, Ask, Meaning, Move, Pick, Row, Send, Stream, Sub, SubId, Take}
@@ -15,7 +15,6 @@ use Rattle.rsx_graph_state.specs.Prelude.{AllStand, History, Rows, StandsFor, Su
 use Rattle.rsx_graph_moves.specs.Moves.{enabled_in_tree, is_enabled}
 use Rattle.rsx_graph_moves.specs.Pumped.{IsAllQuiet}
 use Rattle.rsx_graph_moves.specs.Explained.{IsWait, is_for_pump}
-use Rattle.rsx_waits.specs.declared.wait.HubWait.{HubWait}
 use Rattle.rsx_waits.specs.declared.wait.HubWait.TheVariants as hub_wait
 use Rattle.rsx_waits.specs.declared.wait.Wait.{Wait}
 use Rattle.rsx_waits.specs.declared.wait.Wait.TheVariants.{Ended, Cancelled, Refused, Enabled, Request, Hub, Unknown}

@@ -1,7 +1,7 @@
 -- Rounds of moves: those of the subscriptions, and then those of the hubs.
 use Rattle.rsx_sources.specs.declared.machine.Machine.{Ghosts as Machine}
 use Rattle.rsx_rooted.specs.declared.nodes.Nodes.{Ghosts as Nodes}
-use Rattle.std.proofs.Common.{◌≡◌, ℕ, ◌+◌, List, length, Ok, Err, ap, sym, subst, arith}
+use Rattle.std.proofs.Common.{◌≡◌, ℕ, ◌+◌, ◌<◌, List, length, Ok, Err, ap, sym, subst, arith}
 use Rattle.rsx_graph_moves.specs.Rows.{HasDriven}
 use Rattle.rsx_graph_state.specs.Prelude.{Rows, AreQuiet, Delivered, Subscription}
 use Rattle.rsx_graph_state.specs.declared.refusal.Refusal.{Refusal}
@@ -96,9 +96,10 @@ is_idle {M} {T} mc kd m budget rested left first before mid now out d q last =
     let Q : List (Subscription M T) → Type 0 = λ l. AreQuiet mc m l (length l) in
     (e.moves, (omega (arith, n, k, count), rows_quiet mc kd m now (subst Q (ap (λ g. g.subs) (sym still)) d.quiet) (q.1.1 last)), e.made, e.output)
 
--- otherwise less of the budget is left
-pub spends : {M T : Type 0} (mc : Machine M T) (kd : Nodes M T) (m : Meaning T) (rested left : ℕ) (mid now : Rows M T) → HaveServed mc kd m rested mid (Ok (Rests left)) now → (q : ℕ) × (q + left ≡ rested)
-spends mc kd m rested left mid now q = (length q.0, q.1.0)
-
-pub rests : {M T : Type 0} (mc : Machine M T) (kd : Nodes M T) (m : Meaning T) (left rested : ℕ) (olds news : List (Subscription M T)) (out out' : Delivered T) → HasDriven mc kd m left olds out (Ok (Rests rested)) news out' → (n : ℕ) × (n + rested ≡ left)
-rests mc kd m left rested olds news out out' p = (p.0, p.1.0)
+-- otherwise less of the budget is left behind them
+pub less_left : {M T : Type 0} (mc : Machine M T) (kd : Nodes M T) (m : Meaning T) (left rested behind : ℕ) (olds news : List (Subscription M T)) (out out' : Delivered T) (mid now : Rows M T) →
+    HasDriven mc kd m left olds out (Ok (Rests rested)) news out' → HaveServed mc kd m rested mid (Ok (Rests behind)) now → (behind ≡ rested → ⊥) → behind < left
+less_left mc kd m left rested behind olds news out out' mid now p q more =
+    let k = p.1.0 in
+    let j = q.1.0 in
+    omega (arith, k, j, more)

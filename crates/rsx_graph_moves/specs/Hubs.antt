@@ -1,7 +1,7 @@
 -- Why nothing comes from a hub.
 use Rattle.std.specs.Prelude.{◌≡◌, ℕ, true, false, List, Option, Some, None, slice_get}
 use Rattle.rsx_types.specs.declared.names.HubId.{HubId}
-use Rattle.rsx_sources.specs.Prelude.{Meaning, Signal, Next, Move, Tree, Sub, Feed as FeedOf}
+use Rattle.rsx_sources.specs.Prelude.{Meaning, Signal, Next, Tree, Sub, Feed as FeedOf}
 use Rattle.rsx_sources.specs.declared.machine.Machine.{Ghosts as Machine}
 use Rattle.rsx_rooted.specs.declared.nodes.Nodes.{Ghosts as Nodes}
 use Rattle.rsx_pipe.specs.Published.{has_room_for}

@@ -7,6 +7,7 @@
 //! The moves of subscriptions that stand in a row and are named by their numbers.
 //!
 //! - [`trees`]: [`make_in_tree`] and [`take`], one move of a subscription.
+//! - [`idle_set`]: [`IdleSet`], which subscriptions are known to be idle.
 //! - [`subscriptions`]: [`drive`], moves of subscriptions until none is enabled.
 //!
 //! # Hubs, feeds and subscriptions
@@ -29,12 +30,14 @@
 //! move, made many times), `Pumped` (many moves, one after the other) and `Served` (what was got where no move is enabled);
 //! `Waiting` (which node of a tree waits for which hub), `Idle` (an idle tree of which more is asked than it sent: some node of it
 //! waits for a hub), `Hubs` (why nothing comes from a hub), `Explained` (what a subscriber waits for), `FeedWaits` (what the feed of a
-//! hub waits for) and `Pictures` (what the nodes of a tree do).
+//! hub waits for), `IdleSet` (which numbers are in a set), `Resting` (no move is enabled of the subscriptions in it) and `Pictures` (what
+//! the nodes of a tree do).
 
 pub mod explaining;
 pub mod feed_waits;
 mod hub_waits;
 mod hubs;
+pub mod idle_set;
 pub mod law;
 pub mod leaf;
 pub mod many;
@@ -43,9 +46,11 @@ pub mod picturing;
 pub mod rounds;
 pub mod subscriptions;
 pub mod trees;
+mod waking;
 
 pub use explaining::explain;
 pub use feed_waits::explain_feed;
+pub use idle_set::{IdleSet, MOST_IDLE};
 pub use law::{feeds_keep_their_hubs, idle_means_delivered};
 pub use leaf::{WaitingLeaf, waiting_leaf};
 pub use many::make_many;

@@ -3,7 +3,7 @@
 use anyhow::{Result, bail};
 use rsx_demo::{Demo, Val};
 use rsx_graph_calls::{Regions, admit, cancel, emit, owed, request, subscribe};
-use rsx_graph_moves::{make, pump};
+use rsx_graph_moves::{IdleSet, make, pump};
 use rsx_graph_state::{Feed, MOST_HUBS, MOST_SUBSCRIPTIONS};
 use rsx_hub::Hub;
 use rsx_model::Expr;
@@ -117,12 +117,14 @@ impl<N: Nodes<Item = Val> + Drop> Rows<N> {
         if self.hubs.len() > MOST_HUBS || self.subscriptions.len() > MOST_SUBSCRIPTIONS {
             bail!("too many")
         }
+        let mut idle = IdleSet::new();
         pump(
             alloc,
             &Demo,
             &mut self.hubs,
             &mut self.feeds,
             &mut self.subscriptions,
+            &mut idle,
             budget,
             out,
         )?;

@@ -1,5 +1,5 @@
 use Rattle.std.proofs.Common.{◌≡◌, ◌∙◌, ap, subst, sym, true, ℕ, Some}
-use Rattle.rsx_sources.specs.declared.machine.Front.TheVariants.{Item, Completion, Failure}
+use Rattle.rsx_sources.specs.declared.machine.Front.TheVariants.{Completion, Failure}
 use Rattle.rsx_graph_state.specs.Publishing.{all_have_room}
 use Rattle.rsx_hub.specs.Hub.{waiting}
 use Rattle.rsx_graph_moves.specs.Hubs.{IsFull}

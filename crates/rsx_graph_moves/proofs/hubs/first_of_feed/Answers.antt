@@ -67,3 +67,9 @@ returns-in-Some-clause-own g c = λ m q.
     let here = found c.args.feeds.now.items c.args.at f c.requires.within (sym c.index-feed.ensures) in
     let k = c.in-Some.ensures.some m in
     not_quiet_feed g.N.Machine m rows n c.in-Some.inside k.0 (inside_of_feed g.N.Machine m rows n f c.in-Some.inside c.requires.there (placed_feed c.args.feeds.now.items n c.args.at f c.requires.place here) k.1) q
+
+pub returns-in-Some-clause-of : goal.returns-in-Some-clause-of
+returns-in-Some-clause-of g c = ap tree_of c.name_in_feed.ensures ∙ name_in_tree g.N.Nodes c.index-feed.result.now c.args.hub c.in-Some.inside
+
+pub returns-in-true-clause-of : goal.returns-in-true-clause-of
+returns-in-true-clause-of g c = ap tree_of c.name_in_feed-in-true.ensures ∙ name_in_tree g.N.Nodes c.index-feed.result.now c.args.hub (Send 0)

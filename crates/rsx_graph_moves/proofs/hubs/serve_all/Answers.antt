@@ -11,6 +11,7 @@ loop-at-init g c = record {
   so_far = (0, omega arith, so_far_none g.N.Machine g.N.Nodes (g.O.Ops.meaning c.args.ops.now) (rows_of c.args.hubs.now.items c.args.feeds.now.items c.args.subscriptions.now.items) []);
   none = λ _ i l. absurd (omega (arith, l));
   still = λ _. refl;
+  idle = c.requires.idle;
 }
 
 pub loop-at-preserved : goal.loop-at-preserved
@@ -32,6 +33,7 @@ loop-at-preserved g c =
       so_far = (s.0 + length p.0, omega (arith, n, k), so_far_taken g.N.Machine g.N.Nodes m first before after [] [] s.0 p.0 s.2 p.2 p.3);
       none = λ e. hubs_quiet_on g.N.Machine m before after c.loop-at.at (none_made g.N.Machine g.N.Nodes m before after p.0 (omega (arith, n, k, e)) p.2) (c.loop-at.invariant.none (omega (arith, n, k, e))) p.1.1;
       still = λ q. (c.serve.ensures.none (still_quiet g.N.Machine m first before c.loop-at.at (length c.args.hubs.now.items) (omega (arith, less, many)) (c.loop-at.invariant.still q) q)).0 ∙ c.loop-at.invariant.still q;
+      idle = c.serve.ensures.idle;
     }
 
 pub returns-in-Ok-Budget-clause-served : goal.returns-in-Ok-Budget-clause-served

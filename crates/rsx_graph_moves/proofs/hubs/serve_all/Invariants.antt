@@ -1,6 +1,7 @@
 use Rattle.std.proofs.Common.{◌≡◌, ◌+◌, ℕ, [], length}
 use Rattle.rsx_graph_state.specs.Moves.{rows_of}
 use Rattle.rsx_graph_moves.specs.Pumped.{AreHubsQuiet}
+use Rattle.rsx_graph_moves.specs.Resting.{AreIdle}
 use Rattle.rsx_graph_moves.proofs.Driving.{SoFar}
 use Rattle.rsx_graph_moves.proofs.hubs.serve_all.Given as goal
 
@@ -12,4 +13,5 @@ invariant-loop-at g l = record {
   so_far : (n : ℕ) × (n + l.left ≡ l.fn.budget) × SoFar g.N.Machine g.N.Nodes (g.O.Ops.meaning l.ops) (rows_of l.fn.hubs.items l.fn.feeds.items l.fn.subscriptions.items) [] n (rows_of l.hubs.items l.feeds.items l.subscriptions.items) [];
   none : l.left ≡ l.fn.budget → AreHubsQuiet g.N.Machine (g.O.Ops.meaning l.ops) (rows_of l.hubs.items l.feeds.items l.subscriptions.items) l.at;
   still : AreHubsQuiet g.N.Machine (g.O.Ops.meaning l.ops) (rows_of l.fn.hubs.items l.fn.feeds.items l.fn.subscriptions.items) (length l.fn.hubs.items) → rows_of l.hubs.items l.feeds.items l.subscriptions.items ≡ rows_of l.fn.hubs.items l.fn.feeds.items l.fn.subscriptions.items;
+  idle : AreIdle g.N.Machine (g.O.Ops.meaning l.ops) l.idle l.subscriptions.items;
 }

@@ -1,6 +1,5 @@
 use Rattle.std.proofs.Common.{◌≡◌, Some, None, ap, is_some, sym, subst, ◌∙◌}
 use Rattle.rsx_graph_state.specs.Moves.{rows_of}
-use Rattle.rsx_subscriber.specs.Prelude.{delivery}
 use Rattle.rsx_types.specs.declared.names.Move.{Move}
 use Rattle.rsx_graph_moves.specs.Many.{IsMadeTimes, delivers_to}
 use Rattle.rsx_graph_moves.specs.Moves.{IsMakeRefusal, is_enabled}

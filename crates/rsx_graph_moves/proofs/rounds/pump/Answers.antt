@@ -2,7 +2,7 @@ use Rattle.std.proofs.Common.{◌∙◌, ap, arith, length, refl}
 use Rattle.rsx_graph_state.specs.Prelude.{rows_of, signals_wait, pump_allocates}
 use Rattle.rsx_tree.proofs.Alike.{or_left, or_right}
 use Rattle.rsx_graph_moves.proofs.Driving.{nothing_waits, so_far_none}
-use Rattle.rsx_graph_moves.proofs.Turns.{drives, drives_on, drives_refused, is_idle, rests, serves, serves_on, serves_refused, spends}
+use Rattle.rsx_graph_moves.proofs.Turns.{drives, drives_on, drives_refused, is_idle, less_left, serves, serves_on, serves_refused}
 use Rattle.rsx_graph_moves.proofs.rounds.pump.Goals as goal
 
 pub rounds-init : goal.rounds-init
@@ -12,6 +12,7 @@ rounds-init g c = record {
   subscriptions = refl;
   so_far = (0, omega arith, so_far_none g.N.Machine g.N.Nodes (g.O.Ops.meaning c.args.ops.now) (rows_of c.args.hubs.now.items c.args.feeds.now.items c.args.subscriptions.now.items) c.args.out.now.signals);
   free = λ f unfed. let a = pump_allocates g.N.Machine (g.O.Ops.allocates c.args.ops.now) c.args.subscriptions.now.items in let w = signals_wait c.args.hubs.now.items in (or_left a w f, or_right a w f, unfed);
+  idle = c.requires.idle;
 }
 
 pub returns-in-Ok-Budget-clause-pumped : goal.returns-in-Ok-Budget-clause-pumped
@@ -63,12 +64,7 @@ rounds-smaller g c =
     let m = g.O.Ops.meaning c.args.ops.now in
     let mid = rows_of c.rounds.hubs.items c.rounds.feeds.items c.drive.new.subscriptions.items in
     let after = rows_of c.serve_all.new.hubs.items c.serve_all.new.feeds.items c.serve_all.new.subscriptions.items in
-    let p = rests g.N.Machine g.N.Nodes m c.rounds.left c.in-Ok-Idle.rested c.rounds.subscriptions.items c.drive.new.subscriptions.items c.rounds.out c.drive.new.out (rw c.in-Ok-Idle.field-0-is at c.in-Ok-Idle.ensures.driven) in
-    let q = spends g.N.Machine g.N.Nodes m c.in-Ok-Idle.rested c.in-Ok-Idle-serve_all.behind mid after (rw c.in-Ok-Idle-serve_all.field-0-is at c.in-Ok-Idle-serve_all.ensures.served) in
-    let k = p.1 in
-    let j = q.1 in
-    let more = c.if-left-rested.false in
-    omega (arith, k, j, more)
+    less_left g.N.Machine g.N.Nodes m c.rounds.left c.in-Ok-Idle.rested c.in-Ok-Idle-serve_all.behind c.rounds.subscriptions.items c.drive.new.subscriptions.items c.rounds.out c.drive.new.out mid after (rw c.in-Ok-Idle.field-0-is at c.in-Ok-Idle.ensures.driven) (rw c.in-Ok-Idle-serve_all.field-0-is at c.in-Ok-Idle-serve_all.ensures.served) c.if-left-rested.false
 
 pub rounds-preserved : goal.rounds-preserved
 rounds-preserved g c = record {
@@ -91,6 +87,7 @@ rounds-preserved g c = record {
       let p = rw c.in-Ok-Idle.field-0-is at c.in-Ok-Idle.ensures.driven in
       let still = (c.serve_all.ensures.none (nothing_waits g.N.Machine m mid k.1 k.2 (length c.rounds.hubs.items))).0 in
       (ap (λ r. pump_allocates g.N.Machine a r.subs) still ∙ (p.2.alike a ∙ k.0), ap (λ g. signals_wait g.hubs) still ∙ k.1, ap (λ g. g.feeds) still ∙ k.2);
+  idle = c.serve_all.ensures.idle;
 }
 
 pub returns-in-Err-clause-memory : goal.returns-in-Err-clause-memory

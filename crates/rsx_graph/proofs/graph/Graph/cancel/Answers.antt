@@ -2,6 +2,8 @@ use Rattle.std.proofs.Common.{◌∙◌, map, sym, refl}
 use Rattle.rsx_graph_calls.specs.Regions.{regions_of}
 use Rattle.rsx_graph.proofs.Kept.{cancelled_count, on_err, on_ok, past_joins, past_regions, state_with}
 use Rattle.rsx_subscriber.specs.Past.{cancelled}
+use Rattle.rsx_kinds.specs.Any.{any_machine}
+use Rattle.rsx_graph_moves.proofs.Rest.{cancelled_idle}
 use Rattle.rsx_graph.proofs.graph.Graph.cancel.Goals as goal
 
 pub invariant_of-self-clause-joined : goal.invariant_of-self-clause-joined
@@ -26,3 +28,6 @@ returns-clause-same g c =
     let graph = c.args.self.now in
     on_err c.cancel.result c.cancel.ensures.same
     (λ same i. state_with graph.hubs.items graph.feeds.items (same i) (map (λ v. v.items) graph.joins.items) (map (λ v. v.items) graph.feed_joins.items) (regions_of graph.regions))
+
+pub invariant_of-self-clause-resting : goal.invariant_of-self-clause-resting
+invariant_of-self-clause-resting g c = cancelled_idle any_machine (g.O.Ops.meaning c.args.self.now.ops) c.args.sub.0 c.args.self.now.idle c.remove.new.self c.args.self.now.subscriptions.items c.cancel.new.subscriptions.items c.cancel.result c.remove.ensures c.cancel.ensures.effect c.cancel.ensures.same c.args.self.now.resting

@@ -3,6 +3,9 @@ use Rattle.rsx_graph_state.specs.Moves.{rows_of}
 use Rattle.rsx_graph_calls.specs.Regions.{regions_of}
 use Rattle.rsx_graph.proofs.Kept.{graph_made, if_err, names_made, on_err, state_with}
 use Rattle.rsx_graph.specs.InGraph.{sent_in, state_of}
+use Rattle.rsx_kinds.specs.Any.{any_machine}
+use Rattle.rsx_kinds.specs.Routes.{tree_nodes}
+use Rattle.rsx_graph_moves.proofs.Rest.{made_idle}
 use Rattle.rsx_graph.proofs.graph.Graph.make.Goals as goal
 
 pub invariant_of-self-clause-sent : goal.invariant_of-self-clause-sent
@@ -34,3 +37,6 @@ returns-clause-same g c =
 pub returns-clause-memory : goal.returns-clause-memory
 returns-clause-memory g c = λ quiet. if_err c.make.result c.make.ensures.memory
     (λ r k. k quiet)
+
+pub invariant_of-self-clause-resting : goal.invariant_of-self-clause-resting
+invariant_of-self-clause-resting g c = made_idle any_machine tree_nodes (g.O.Ops.meaning c.args.self.now.ops) c.args.step c.args.self.now.idle c.wake.new.self (state_of c.args.self.now).rows (rows_of c.make.new.hubs.items c.make.new.feeds.items c.make.new.subscriptions.items) c.make.result c.wake.ensures c.make.ensures.effect c.make.ensures.same c.args.self.now.resting

@@ -4,6 +4,9 @@ use Rattle.rsx_graph_calls.specs.Regions.{regions_of}
 use Rattle.rsx_graph.proofs.Kept.{on_err, state_with}
 use Rattle.rsx_graph.proofs.Times.{graph_times, names_times, none_times}
 use Rattle.rsx_graph.specs.InGraph.{state_of}
+use Rattle.rsx_kinds.specs.Any.{any_machine}
+use Rattle.rsx_kinds.specs.Routes.{tree_nodes}
+use Rattle.rsx_graph_moves.proofs.Rest.{times_idle}
 use Rattle.rsx_graph.proofs.graph.Graph.make_many.Goals as goal
 
 pub invariant_of-self-clause-sent : goal.invariant_of-self-clause-sent
@@ -41,3 +44,6 @@ returns-clause-same g c =
     let graph = c.args.self.now in
     on_err c.make_many.result c.make_many.ensures.same
     (λ same. (λ i. state_with (same.0 i) (same.1 i) (same.2 i) (map (λ v. v.items) graph.joins.items) (map (λ v. v.items) graph.feed_joins.items) (regions_of graph.regions), same.3))
+
+pub invariant_of-self-clause-resting : goal.invariant_of-self-clause-resting
+invariant_of-self-clause-resting g c = times_idle any_machine tree_nodes (g.O.Ops.meaning c.args.self.now.ops) c.args.step c.args.self.now.idle c.wake.new.self (state_of c.args.self.now).rows (rows_of c.make_many.new.hubs.items c.make_many.new.feeds.items c.make_many.new.subscriptions.items) c.args.out.now c.make_many.new.out c.make_many.result c.wake.ensures c.make_many.ensures.made c.make_many.ensures.same c.args.self.now.resting

@@ -1,9 +1,11 @@
+use Rattle.rsx_kinds.specs.Any.{any_machine}
 use Rattle.rsx_graph.specs.Kinds.{Feed}
 use Rattle.std.proofs.Common.{length, map, List, ap, sym, ◌∙◌, subst, arith}
 use Rattle.std.proofs.lemmas.List.{length-map}
 use Rattle.rsx_graph_calls.specs.Edits.{NameHubs}
 use Rattle.rsx_graph_calls.specs.Regions.{RegionLists}
 use Rattle.rsx_graph.proofs.Kept.{begun_from, state_with}
+use Rattle.rsx_graph_moves.proofs.Rest.{none_idle}
 use Rattle.rsx_graph.proofs.graph.Graph.new.Goals as goal
 
 pub invariant_of-result : goal.invariant_of-result
@@ -19,6 +21,7 @@ invariant_of-result g c =
       sent = sym (length-map c.new-6.result.feed_senders.items (λ v. v.items)) ∙ (ap (λ (r : RegionLists). length r.feed_senders) c.new-6.ensures ∙ sym (ap length c.new-2.ensures.items));
       joined = ap length c.new-5.ensures.items ∙ sym (ap length c.new-4.ensures.items);
       rooted = ap (λ (r : RegionLists). length r.roots) c.new-6.ensures ∙ sym (ap length c.new-4.ensures.items);
+      resting = none_idle any_machine (g.O.Ops.meaning c.args.ops) c.new-7.result c.new-4.result.items c.new-7.ensures;
     }
 
 pub returns-clause-empty : goal.returns-clause-empty

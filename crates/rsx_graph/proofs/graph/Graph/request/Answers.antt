@@ -4,6 +4,8 @@ use Rattle.rsx_graph_calls.specs.Regions.{regions_of}
 use Rattle.rsx_graph.proofs.Kept.{requested_count, on_err, on_ok, past_joins, past_regions, requested_expression, state_with}
 use Rattle.rsx_graph_state.proofs.Graphs.{requested_joins}
 use Rattle.rsx_subscriber.specs.Past.{requested}
+use Rattle.rsx_kinds.specs.Any.{any_machine}
+use Rattle.rsx_graph_moves.proofs.Rest.{requested_idle}
 use Rattle.rsx_graph.proofs.graph.Graph.request.Goals as goal
 
 pub invariant_of-self-clause-joined : goal.invariant_of-self-clause-joined
@@ -31,3 +33,6 @@ returns-clause-same g c =
     let graph = c.args.self.now in
     on_err c.request.result c.request.ensures.same
     (λ same i. state_with graph.hubs.items graph.feeds.items (same i) (map (λ v. v.items) graph.joins.items) (map (λ v. v.items) graph.feed_joins.items) (regions_of graph.regions))
+
+pub invariant_of-self-clause-resting : goal.invariant_of-self-clause-resting
+invariant_of-self-clause-resting g c = requested_idle any_machine (g.O.Ops.meaning c.args.self.now.ops) c.args.sub.0 _ c.args.self.now.idle c.remove.new.self c.args.self.now.subscriptions.items c.request.new.subscriptions.items c.request.result c.remove.ensures c.request.ensures.effect c.request.ensures.same c.args.self.now.resting

@@ -1,4 +1,4 @@
-use Rattle.std.proofs.Common.{◌≡◌, ◌∷◌, [], length, ap, refl, sym, ◌∙◌, append_assoc, arith, length-append}
+use Rattle.std.proofs.Common.{◌≡◌, ◌∷◌, [], length, ap, refl, ◌∙◌, append_assoc, arith, length-append}
 use Rattle.std.specs.Vec.Iter.{into_iter_items}
 use Rattle.rsx_graph.proofs.Runs.{run_all, run_more, run_none}
 use Rattle.rsx_graph.specs.InGraph.{state_of}

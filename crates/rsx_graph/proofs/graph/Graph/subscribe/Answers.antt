@@ -1,10 +1,18 @@
+use Rattle.rsx_kinds.specs.Any.{any_machine}
 use Rattle.std.proofs.Common.{length, map}
 use Rattle.rsx_graph.proofs.Kept.{names_on, state_with}
 use Rattle.rsx_graph.proofs.Limits.{join_keeps}
+use Rattle.rsx_graph_moves.proofs.Rest.{pushed_idle}
 use Rattle.rsx_graph.proofs.graph.Graph.subscribe.Goals as goal
 
-pub invariant_of-self-2-clause-named : goal.invariant_of-self-2-clause-named
-invariant_of-self-2-clause-named g c = names_on (length c.args.self.now.hubs.items) (length c.subscribe.new.hubs.items) c.args.self.now.feeds.items c.subscribe.ensures.hubs c.args.self.now.named
+pub invariant_of-self-in-Ok-subscribe-clause-named : goal.invariant_of-self-in-Ok-subscribe-clause-named
+invariant_of-self-in-Ok-subscribe-clause-named g c = names_on (length c.args.self.now.hubs.items) (length c.subscribe.new.hubs.items) c.args.self.now.feeds.items c.subscribe.ensures.hubs c.args.self.now.named
+
+pub invariant_of-self-in-Ok-subscribe-clause-resting : goal.invariant_of-self-in-Ok-subscribe-clause-resting
+invariant_of-self-in-Ok-subscribe-clause-resting g c =
+    let m = g.O.Ops.meaning c.args.self.now.ops in
+    let fresh = c.in-Ok-subscribe.ensures.effect m (rw c.deref.ensures.value at c.in-Ok.ensures.built) c.in-Ok.ensures.placed in
+    pushed_idle any_machine m c.args.self.now.idle c.remove.new.self c.args.self.now.subscriptions.items c.subscribe.new.subscriptions.items c.in-Ok-subscribe.id.0 fresh.0 c.remove.ensures c.in-Ok-subscribe.ensures.id.0 fresh.1 c.args.self.now.resting
 
 pub returns-in-Ok-subscribe-clause-stands : goal.returns-in-Ok-subscribe-clause-stands
 returns-in-Ok-subscribe-clause-stands g c = λ h s.

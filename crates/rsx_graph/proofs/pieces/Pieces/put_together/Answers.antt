@@ -1,4 +1,6 @@
 use Rattle.std.proofs.Common.{refl}
+use Rattle.rsx_kinds.specs.Any.{any_machine}
+use Rattle.rsx_graph_moves.proofs.Rest.{none_idle}
 use Rattle.rsx_graph.proofs.pieces.Pieces.put_together.Goals as goal
 
 pub returns-clause-pieces : goal.returns-clause-pieces
@@ -12,3 +14,6 @@ returns-clause-stands g c = λ h s. s
 
 pub returns-clause-only : goal.returns-clause-only
 returns-clause-only g c = λ h s. s
+
+pub invariant_of-result-clause-resting : goal.invariant_of-result-clause-resting
+invariant_of-result-clause-resting g c = none_idle any_machine (g.O.Ops.meaning c.args.self.ops) c.new.result c.args.self.subs.items c.new.ensures

@@ -1,0 +1,150 @@
+-- A hub wakes only those subscriptions of which some node reads it.
+use Rattle.rsx_sources.specs.declared.machine.Machine.{Ghosts as Machine}
+use Rattle.rsx_rooted.specs.declared.nodes.Nodes.{Ghosts as Nodes}
+use Rattle.std.proofs.Common.{◌≡◌, ℕ, zero, suc, ◌+◌, ◌<◌, ◌&&◌, nat_eq, Bool, true, false, if◌then◌else◌, List, [], ◌∷◌, length, slice_get, Option, Some, None, refl, ap, sym, ◌∙◌, subst, arith}
+use Rattle.rsx_types.specs.Meaning.{Meaning}
+use Rattle.rsx_sources.specs.Prelude.{HubId, Move, Ask, Send, Take, Pick, Row, Accept, SubId, Tree, Sub, Feed as FeedOf, Signal, reads_hub}
+use Rattle.rsx_tree.specs.declared.edge.EdgeState.{EdgeState}
+use Rattle.rsx_tree.specs.declared.edge.EdgeState.TheVariants.{Live, Ended, Closed}
+use Rattle.rsx_tree.specs.declared.inputs.Inputs.{Inputs, End, More'}
+use Rattle.rsx_tree.specs.declared.look.NodeMove.{NodeMove}
+use Rattle.rsx_tree.specs.declared.node.Node.{Node}
+use Rattle.rsx_tree.specs.Edges.{is_live}
+use Rattle.rsx_tree.specs.Handed as Tree
+use Rattle.rsx_tree.specs.Handed.{IsNodeHanded, IsRowHanded, IsTakenWhere, OneOf, reader_at, readers_in}
+use Rattle.rsx_pipe.specs.Part as Part
+use Rattle.rsx_pipe.specs.Part.{Part as PartOf}
+use Rattle.rsx_pipe.specs.Published as Published
+use Rattle.rsx_pipe.specs.Published.{readers}
+use Rattle.rsx_subscriber.specs.Published.{IsHanded}
+use Rattle.rsx_subscriber.specs.Prelude.{IsQuiet, delivers, tree_of}
+use Rattle.rsx_subscriber.specs.declared.subscription.Subscription.{Subscription}
+use Rattle.rsx_graph_state.specs.Lists.{AllChanged}
+use Rattle.rsx_graph_state.specs.Prelude.{AllHanded, IsMovedBy, Rows, is_out}
+use Rattle.rsx_graph_state.proofs.Named.{feed_named}
+use Rattle.rsx_graph_state.proofs.Places.{placed_feed}
+use Rattle.rsx_graph_moves.specs.Moves.{IsMoved, IsMovedInFeed, IsMovedInTree, feed_move}
+use Rattle.rsx_graph_moves.specs.Resting.{AreIdle, NoneReads}
+use Rattle.rsx_graph_moves.specs.declared.idle_set.IdleSet.{IdleSet}
+
+-- ---- where no node reads the hub, nothing changes
+
+-- a test counted as 1 that counts nothing
+abbrev counted : Bool → ℕ
+counted v = if v then 1 else 0
+
+not_counted : (v : Bool) → counted v ≡ 0 → v ≡ false
+not_counted true e = absurd (omega (arith, e))
+not_counted false e = refl
+
+node_same : {M T : Type 0} (b : Machine M T) (h : ℕ) (s : Signal T) (n n' : M) → reader_at b h n ≡ 0 → IsNodeHanded b h s n n' → n' ≡ n
+node_same {M} {T} b h s n n' none k = by_read (reads_hub h (b.reads n)) (not_counted (reads_hub h (b.reads n)) none) k
+  where
+    by_read : (v : Bool) → v ≡ false → IsTakenWhere b s v n n' → n' ≡ n
+    by_read true e k = cc
+    by_read false e k = k
+
+row_same : {M T : Type 0} (b : Machine M T) (h : ℕ) (s : Signal T) (t t' : Inputs M) → readers_in b h t ≡ 0 → IsRowHanded b h s t t' → t' ≡ t
+row_same b h s End t' none k = k
+row_same {M} {T} b h s (More' e n p below q beside) t' none k =
+    by_live (λ z x. row_same b h s below k.1 z x) (λ z x. row_same b h s beside k.2 z x) (is_live e.state) none k.4
+  where
+    joined : k.0 ≡ n → k.1 ≡ below → k.2 ≡ beside → t' ≡ More' e n p below q beside
+    joined x y z = k.3 ∙ (λ i. More' e (x i) p (y i) q (z i))
+
+    by_live : (readers_in b h below ≡ 0 → IsRowHanded b h s below k.1 → k.1 ≡ below) → (readers_in b h beside ≡ 0 → IsRowHanded b h s beside k.2 → k.2 ≡ beside) → (v : Bool) → (if v then reader_at b h n + readers_in b h below else 0) + readers_in b h beside ≡ 0 → OneOf v (IsNodeHanded b h s n k.0 × IsRowHanded b h s below k.1) ((k.0 ≡ n) × (k.1 ≡ below)) → t' ≡ More' e n p below q beside
+    by_live under side true z one = joined (node_same b h s n k.0 (omega (arith, z)) one.0) (under (omega (arith, z)) one.1) (side (omega (arith, z)) k.5)
+    by_live under side false z one = joined one.0 one.1 (side (omega (arith, z)) k.5)
+
+tree_same : {M T : Type 0} (b : Machine M T) (h : ℕ) (s : Signal T) (old new : Node M) → Tree.readers b h old ≡ 0 → Tree.IsHanded b h s old new → new ≡ old
+tree_same b h s old new none k =
+    let root = node_same b h s old.machine new.machine (omega (arith, none)) k.root in
+    let below = row_same b h s old.inputs new.inputs (omega (arith, none)) k.below in
+    λ i. record { machine = root i; inputs = below i }
+
+part_same : {M T : Type 0} (b : Machine M T) (h : ℕ) (s : Signal T) (old new : PartOf M) → readers b h old ≡ 0 → Published.IsHanded b h s old new → new ≡ old
+part_same {M} {T} b h s old new none k = by_state old.root.state refl none
+  where
+    by_state : (st : EdgeState) → old.root.state ≡ st → (if is_live st then Tree.readers b h old.tree else 0) ≡ 0 → new ≡ old
+    by_state Live e z = let tree = tree_same b h s old.tree new.tree z (k.tree e) in let root = k.root in λ i. record { tree = tree i; root = root i }
+    by_state Ended e z = k.still (λ live. let no : Live ≡ Ended = sym live ∙ e in cc)
+    by_state Closed e z = k.still (λ live. let no : Live ≡ Closed = sym live ∙ e in cc)
+
+-- ---- a subscription
+
+quiet_same : {M T : Type 0} (mc : Machine M T) (m : Meaning T) (h : ℕ) (s : Signal T) (old new : Subscription M T) → readers mc h old.part ≡ 0 → IsHanded mc h s old new → IsQuiet mc m old → IsQuiet mc m new
+quiet_same mc m h s old new none k quiet =
+    let part = part_same mc h s old.part new.part none k.part in
+    let queue = k.queue in
+    let kept = k.kept in (
+      λ move small. (λ i. Part.move_enabled mc m (part i) (Part.has_room (queue i)) move) ∙ quiet.0 move small,
+      (λ i. nat_eq 0 0 && delivers (kept.state i) (kept.demand i) (queue i)) ∙ quiet.1,
+    )
+
+none_same : {M T : Type 0} (mc : Machine M T) (h : ℕ) (s : Signal T) (old new : Subscription M T) → readers mc h old.part ≡ 0 → IsHanded mc h s old new → readers mc h new.part ≡ 0
+none_same mc h s old new none k = ap (readers mc h) (part_same mc h s old.part new.part none k.part) ∙ none
+
+-- ---- the idle ones
+
+-- none of them reads the hub, and no move of theirs is enabled
+abbrev pub Rests : {M T : Type 0} → Machine M T → Meaning T → ℕ → IdleSet → List (Subscription M T) → Type 0
+Rests mc m h idle subs = AreIdle mc m idle subs × NoneReads mc h idle subs
+
+some_same : {A : Type 0} (a b : A) → Some a ≡ Some b → a ≡ b
+some_same a b e = cc
+
+pub got_within : {A : Type 0} (xs : List A) (i : ℕ) (x : A) → slice_get xs i ≡ Some x → i < length xs
+got_within [] i x e = cc
+got_within (y ∷ ys) zero x e = omega arith
+got_within (y ∷ ys) (suc i) x e = let k = got_within ys i x e in omega (arith, k)
+
+-- what stood where something stands now
+changed_from : {X : Type 0} (P : X → X → Type 0) (olds news : List X) (i : ℕ) (new : X) → AllChanged P olds news → slice_get news i ≡ Some new → (old : X) × (slice_get olds i ≡ Some old) × P old new
+changed_from P [] [] i new all e = cc
+changed_from P [] (y ∷ ys) i new all e = absurd all
+changed_from P (x ∷ xs) [] i new all e = absurd all
+changed_from {X} P (x ∷ xs) (y ∷ ys) zero new all e = let Q : X → Type 0 = λ z. P x z in (x, refl, subst Q (some_same y new e) all.0)
+changed_from P (x ∷ xs) (y ∷ ys) (suc i) new all e = changed_from P xs ys i new all.1 e
+
+handed_rests : {M T : Type 0} (mc : Machine M T) (m : Meaning T) (h : ℕ) (s : Signal T) (idle : IdleSet) (olds news : List (Subscription M T)) → AllHanded mc h s olds news → Rests mc m h idle olds → Rests mc m h idle news
+unfolding AreIdle NoneReads
+handed_rests mc m h s idle olds news all rests = (
+  λ i within new e. let k = changed_from (IsHanded mc h s) olds news i new all e in quiet_same mc m h s k.0 new (rests.1 i within k.0 k.1) k.2 (rests.0 i within k.0 k.1),
+  λ i within new e. let k = changed_from (IsHanded mc h s) olds news i new all e in none_same mc h s k.0 new (rests.1 i within k.0 k.1) k.2,
+)
+
+pub same_rests : {M T : Type 0} (mc : Machine M T) (m : Meaning T) (h : ℕ) (idle : IdleSet) (olds news : List (Subscription M T)) → news ≡ olds → Rests mc m h idle olds → Rests mc m h idle news
+same_rests {M} {T} mc m h idle olds news same rests = let P : List (Subscription M T) → Type 0 = λ l. Rests mc m h idle l in subst P (sym same) rests
+
+-- ---- a move of the hub or of its feed
+
+feed_rests : {M T : Type 0} (mc : Machine M T) (m : Meaning T) (step : NodeMove) (out : Bool) (h : ℕ) (idle : IdleSet) (old new : Rows M T) → IsMovedBy mc m step out h old new → Rests mc m h idle old.subs → Rests mc m h idle new.subs
+feed_rests {M} {T} mc m step true h idle old new k rests =
+    let e = k.effect in
+    let named = feed_named old.feeds h e.feed (placed_feed old.feeds h k.at e.feed k.place e.from) in
+    let P : ℕ → Type 0 = λ n. AllHanded mc n e.signal old.subs new.subs in
+    handed_rests mc m h e.signal idle old.subs new.subs (subst P named e.handed) rests
+feed_rests mc m step false h idle old new k rests = same_rests mc m h idle old.subs new.subs k.subs rests
+
+inside_rests : {M T : Type 0} (mc : Machine M T) (m : Meaning T) (o : Option NodeMove) (h : ℕ) (idle : IdleSet) (old new : Rows M T) → IsMovedInFeed mc m o h old new → Rests mc m h idle old.subs → Rests mc m h idle new.subs
+inside_rests mc m None h idle old new k rests = absurd k
+inside_rests mc m (Some step) h idle old new k rests = feed_rests mc m step (is_out step) h idle old new k rests
+
+tree_rests : {M T : Type 0} (mc : Machine M T) (kd : Nodes M T) (m : Meaning T) (mv : Move) (t : Tree) (hub : HubId) (idle : IdleSet) (old new : Rows M T) (o : Option (SubId × Signal T)) → t ≡ FeedOf hub → IsMovedInTree mc kd m mv t old new o → Rests mc m hub.0 idle old.subs → Rests mc m hub.0 idle new.subs
+tree_rests mc kd m mv (Sub i) hub idle old new o e k rests = cc
+tree_rests {M} {T} mc kd m mv (FeedOf h) hub idle old new o e k rests =
+    let same : h ≡ hub = cc in
+    let P : HubId → Type 0 = λ x. IsMovedInFeed mc m (feed_move kd old.feeds x.0 mv) x.0 old new in
+    inside_rests mc m (feed_move kd old.feeds hub.0 mv) hub.0 idle old new (subst P same k) rests
+
+pub moved_rests : {M T : Type 0} (mc : Machine M T) (kd : Nodes M T) (m : Meaning T) (mv : Move) (hub : HubId) (idle : IdleSet) (old new : Rows M T) (o : Option (SubId × Signal T)) → tree_of mv ≡ FeedOf hub → IsMoved mc kd m mv old new o → Rests mc m hub.0 idle old.subs → Rests mc m hub.0 idle new.subs
+moved_rests mc kd m (Ask t n) hub idle old new o e k rests = tree_rests mc kd m (Ask t n) t hub idle old new o e k rests
+moved_rests mc kd m (Send t n) hub idle old new o e k rests = tree_rests mc kd m (Send t n) t hub idle old new o e k rests
+moved_rests mc kd m (Take t n) hub idle old new o e k rests = tree_rests mc kd m (Take t n) t hub idle old new o e k rests
+moved_rests mc kd m (Pick t n i) hub idle old new o e k rests = tree_rests mc kd m (Pick t n i) t hub idle old new o e k rests
+moved_rests mc kd m (Row t n) hub idle old new o e k rests = tree_rests mc kd m (Row t n) t hub idle old new o e k rests
+moved_rests {M} {T} mc kd m (Accept h) hub idle old new o e k rests =
+    let same : h ≡ hub = cc in
+    let P : HubId → Type 0 = λ x. Rests mc m x.0 idle old.subs in
+    let Q : HubId → Type 0 = λ x. Rests mc m x.0 idle new.subs in
+    subst Q same (handed_rests mc m h.0 k.effect.signal idle old.subs new.subs k.effect.handed (subst P (sym same) rests))
