@@ -42,6 +42,7 @@ inlet_on {T} es fs a b c f g =
       came = f.came ++ g.came;
       received = g.received ∙ (ap (λ l. l ++ g.came) f.received ∙ append_assoc (received_signals a.down) f.came g.came);
       published = lists_on (held a) f.came g.came (published_in a.hub.0 es) (published_in a.hub.0 fs) (held b) (held c) f.published second ∙ ap (λ l. l ++ held c) (sym (flat_map-append (published_by a.hub.0) es fs));
+      seat = g.seat ∙ f.seat;
     }
 
 pub either_flag : (x y flag : Bool) → (x ≡ true → flag ≡ true) → (y ≡ true → flag ≡ true) → x || y ≡ true → flag ≡ true
@@ -60,12 +61,13 @@ outlet_on k es fs before mid after a b c f g = record {
 }
 
 -- nothing has happened to an end
-pub inlet_same : {T : Type 0} (a b : FromEmitter T) → b.hub ≡ a.hub → received_signals b.down ≡ received_signals a.down → b.waiting ≡ a.waiting → InletGoes [] a b
-inlet_same {T} a b h r w = record {
+pub inlet_same : {T : Type 0} (a b : FromEmitter T) → b.hub ≡ a.hub → received_signals b.down ≡ received_signals a.down → b.waiting ≡ a.waiting → b.seat ≡ a.seat → InletGoes [] a b
+inlet_same {T} a b h r w s = record {
   hub = h;
   came = [];
   received = r ∙ sym (append-nil (received_signals a.down));
   published = append-nil (held a) ∙ ap (λ o. option_to_list o) (sym w);
+  seat = s;
 }
 
 pub outlet_same : {T : Type 0} (k : ℕ) (pending : List (SubId × Signal T)) (a b : ToTap T) → sent_signals b.up ≡ sent_signals a.up → carried_up b.up ≡ carried_up a.up → b.asked ≡ a.asked → (is_flagged a.up ≡ true → is_flagged b.up ≡ true) → OutletGoes k [] pending pending a b
@@ -93,7 +95,7 @@ module _ {O T : Type 0} {b : Ops O T} where
   goes_by_same m x = record {
     ops = refl;
     stands = λ h k. k;
-    inlets = beside_same (λ k. InletGoes []) x.inlets.items (λ k i e. inlet_same i i refl refl refl);
+    inlets = beside_same (λ k. InletGoes []) x.inlets.items (λ k i e. inlet_same i i refl refl refl refl);
     outlets = beside_same (λ k. OutletGoes k [] x.pending.items x.pending.items) x.outlets.items (λ k o e. outlet_same k x.pending.items o o refl refl refl (λ h. h));
     known = λ h. h;
   }

@@ -14,8 +14,9 @@ use Rattle.rsx_graph.specs.Stands.{GraphStands}
 use Rattle.rsx_graph.specs.declared.graph.Graph.{Graph}
 use Rattle.rsx_graph_state.specs.declared.refusal.Refusal.{Refusal}
 use Rattle.rsx_graph_state.specs.declared.step.Pumped.{Pumped}
-use Rattle.rsx_link.specs.Ends.{IsDownOf, IsUpOf, carried_up, received_signals, sent_signals, up_steps}
+use Rattle.rsx_link.specs.Ends.{IsCancelSeatOf, IsDownOf, IsUpOf, carried_up, received_signals, sent_signals, up_steps}
 use Rattle.rsx_link.specs.Steps.{flags_of, has_cancel, has_refusal, seen_of}
+use Rattle.rsx_link.specs.declared.cancel.CancelSeat.{CancelSeat}
 use Rattle.rsx_link.specs.declared.link.Link.{Link}
 use Rattle.rsx_subscriber.specs.Delivered.{Delivered}
 use Rattle.rsx_serialized.specs.Ends.{Beside, InletGoes, IsPassedOn, OutletGoes, held, is_flagged}
@@ -52,6 +53,7 @@ module _ {T : Type 0} where
     came = [];
     received = sym (append-nil (received_signals a.down));
     published = append-nil (held a) ∙ ap (λ l. l ++ held a) (sym none);
+    seat = refl;
   }
 
   -- the ends that send, of which one went on
@@ -96,7 +98,7 @@ module _ {T : Type 0} where
       subst (λ (x : Link T). IsDownOf x j.down) same h
 
   pub inlet_there : (ls : List (Link T)) (is : List (FromEmitter T)) (at : ℕ) (l : Link T) (i : FromEmitter T) → AreInletsOf ls is → at < length is → l ≡ get_or ls at l → i ≡ get_or is at i → IsDownOf l i.down
-  inlet_there ls is at l i all lt e f = all.ends.each at l i (link_at ls at (length is) l all.ends.count lt e) (inlet_at is at i lt f)
+  inlet_there ls is at l i all lt e f = (all.ends.each at l i (link_at ls at (length is) l all.ends.count lt e) (inlet_at is at i lt f)).0
 
   pub first_some : (n : ℕ) (ds : List (SubId × Signal T)) → IsFirstFor n ds → 0 < length ds
   first_some n [] h = absurd h
@@ -198,7 +200,8 @@ module _ {O T : Type 0} {b : Ops O T} where
       s.outlets.items ≡ r.outlets.items → s.pending.items ≡ r.pending.items → s.inlets.items ≡ slice_set r.inlets.items at j → slice_get r.inlets.items at ≡ Some i → ((l : Link T) → slice_get links.emitters.items at ≡ Some l → IsDownOf l j.down) → AreEndsOf links s × GoesBy (b.meaning r.graph.ops) (publishes i.hub t.signals) r s
   take_step links r s at taken i j ends ops joins t outs waits ins there down =
       let es : List (Event T) = publishes i.hub t.signals in
-      let P : ℕ → Link T → FromEmitter T → Type 0 = λ k l a. IsDownOf l a.down in
+      let P : ℕ → Link T → FromEmitter T → Type 0 = λ k l a. IsDownOf l a.down × IsCancelSeatOf l a.seat in
+      let end : (l : Link T) → slice_get links.emitters.items at ≡ Some l → P at l j = λ l e. (down l e, subst (λ (c : CancelSeat). IsCancelSeatOf l c) (sym t.seat) (ends.inlets.ends.each at l i e there).1) in
       let is = r.inlets.items in
       let got : (k : ℕ) → signals_for k r.pending.items ++ given_in k es ≡ signals_for k s.pending.items = λ k. ap (λ l. signals_for k r.pending.items ++ l) (publishes_given i.hub t.signals k) ∙ (append-nil (signals_for k r.pending.items) ∙ ap (signals_for k) (sym waits)) in
       let here : InletGoes es i j = record {
@@ -206,10 +209,11 @@ module _ {O T : Type 0} {b : Ops O T} where
         came = t.came;
         received = t.received;
         published = t.published ∙ ap (λ l. l ++ held j) (sym (publishes_here i.hub t.signals i.hub.0 refl));
+        seat = t.seat;
       } in (
         record {
           inlets = record {
-            ends = subst (λ (l : List (FromEmitter T)). Beside P links.emitters.items l) (sym ins) (beside_set P P links.emitters.items is at j down (λ k x y apart e f g. g) ends.inlets.ends);
+            ends = subst (λ (l : List (FromEmitter T)). Beside P links.emitters.items l) (sym ins) (beside_set P P links.emitters.items is at j end (λ k x y apart e f g. g) ends.inlets.ends);
             apart = λ x y a c e f same. ends.inlets.apart x y (was x a e).0 (was y c f).0 (was x a e).1 (was y c f).1 ((was x a e).2 ∙ (same ∙ sym (was y c f).2));
           };
           outlets = subst (λ (l : List (ToTap T)). AreOutletsOf links.taps.items l) (sym outs) ends.outlets;

@@ -51,8 +51,8 @@ module _ {O T : Type 0} {b : Ops O T} where
 
 module _ {T : Type 0} where
   -- nothing came
-  pub takes_none : (m : Meaning T) (g : GraphState T) (old new : FromEmitter T) → new.hub ≡ old.hub → received_signals new.down ≡ received_signals old.down → new.waiting ≡ old.waiting → TakesIn false m g old g new
-  takes_none m g old new hub same waits = record {
+  pub takes_none : (m : Meaning T) (g : GraphState T) (old new : FromEmitter T) → new.hub ≡ old.hub → received_signals new.down ≡ received_signals old.down → new.waiting ≡ old.waiting → new.seat ≡ old.seat → TakesIn false m g old g new
+  takes_none m g old new hub same waits seat = record {
     signals = [];
     stands = λ h k. k;
     hub = hub;
@@ -60,6 +60,7 @@ module _ {T : Type 0} where
     received = same ∙ sym (append-nil (received_signals old.down));
     published = append-nil (held old) ∙ ap (λ o. option_to_list o) (sym waits);
     some = λ e. cc;
+    seat = seat;
   }
 
   -- a signal came, and was published
@@ -72,6 +73,7 @@ module _ {T : Type 0} where
     received = g.received;
     published = g.next ∙ ap (λ o. (s ∷ []) ++ option_to_list o) (sym g.none);
     some = λ e. omega arith;
+    seat = g.seat;
   }
 
   -- a signal came, and waits
@@ -84,4 +86,5 @@ module _ {T : Type 0} where
     received = g.received;
     published = g.next ∙ ap (λ (x : Signal T). x ∷ []) (sym same);
     some = λ e. cc;
+    seat = g.seat;
   }

@@ -34,6 +34,7 @@ module _ {T : Type 0} where
     pub received : received_signals new.down ≡ received_signals old.down ++ came
     pub next : held old ++ came ≡ signal ∷ []
     pub none : new.waiting ≡ None
+    pub seat : new.seat ≡ old.seat
 
   -- these things have happened: what waited and what came since was published, but for what waits now
   pub record InletGoes (es : List (Event T)) (old new : FromEmitter T) : Type 0 where
@@ -41,6 +42,7 @@ module _ {T : Type 0} where
     pub came : List (Signal T)
     pub received : received_signals new.down ≡ received_signals old.down ++ came
     pub published : held old ++ came ≡ published_in old.hub.0 es ++ held new
+    pub seat : new.seat ≡ old.seat
 
   -- ---- what goes to a tap
 

@@ -1,5 +1,7 @@
 -- Definitions that contracts cite.
 pub mod Calls
+pub mod Closing
+pub mod Driven
 pub mod Ends
 pub mod Events
 pub mod Gates
@@ -10,4 +12,6 @@ pub mod Resting
 pub mod Rounds
 pub mod Sending
 pub mod Since
+pub mod Started
+pub mod Starting
 pub mod Told

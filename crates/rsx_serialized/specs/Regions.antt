@@ -4,7 +4,7 @@ use Rattle.rsx_types.specs.Meaning.{Meaning}
 use Rattle.rsx_types.specs.declared.names.SubId.{SubId}
 use Rattle.rsx_types.specs.declared.ops.Ops.{Ghosts as Ops}
 use Rattle.rsx_types.specs.declared.signal.Signal.{Signal}
-use Rattle.rsx_link.specs.Ends.{IsDownOf, IsUpOf, received_signals}
+use Rattle.rsx_link.specs.Ends.{IsCancelSeatOf, IsDownOf, IsUpOf, received_signals}
 use Rattle.rsx_link.specs.declared.link.Link.{Link}
 use Rattle.rsx_graph.specs.InGraph.{state_of}
 use Rattle.rsx_graph.specs.Rows.{History}
@@ -20,7 +20,7 @@ use Rattle.rsx_serialized.specs.declared.region.Links.{Links}
 module _ {T : Type 0} where
   -- each end that takes from an emitter is that of the link at its place, and no two publish at one hub
   pub record AreInletsOf (links : List (Link T)) (inlets : List (FromEmitter T)) : Type 0 where
-    pub ends : Beside (λ k l (i : FromEmitter T). IsDownOf l i.down) links inlets
+    pub ends : Beside (λ k l (i : FromEmitter T). IsDownOf l i.down × IsCancelSeatOf l i.seat) links inlets
     pub apart : (j k : ℕ) (a b : FromEmitter T) → slice_get inlets j ≡ Some a → slice_get inlets k ≡ Some b → a.hub.0 ≡ b.hub.0 → j ≡ k
 
   -- each end that sends to a tap is that of the link at its place, and what was asked for was passed on
@@ -49,6 +49,7 @@ module _ {T : Type 0} where
     pub received : received_signals new.down ≡ received_signals old.down ++ came
     pub published : held old ++ came ≡ signals ++ held new
     pub some : taken ≡ true → 0 < length signals
+    pub seat : new.seat ≡ old.seat
 
 module _ {O T : Type 0} {b : Ops O T} where
   -- the ends are those of the links, and there is one that sends for each subscription

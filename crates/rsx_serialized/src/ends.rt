@@ -4,7 +4,7 @@ ghost use Rattle.std.specs.Prelude.{◌≡◌, ◌||◌};
 ghost use Rattle.rsx_types.specs.declared.signal.Signal.{Signal as SignalSpec};
 
 use rsx_demand::UNBOUNDED;
-use rsx_link::{Down, Found, Link, Up};
+use rsx_link::{CancelSeat, Down, Found, Link, Up};
 use rsx_types::{HubId, Signal};
 
 /// The receiving end of an emitter's link.
@@ -16,6 +16,8 @@ pub struct FromEmitter<T> {
     pub down: Down<T>,
     /// A signal that was taken, and for which the hub had no room yet.
     pub waiting: Option<Signal<T>>,
+    /// The right to cancel the link. Nothing is cancelled by it; who closes the link needs it.
+    pub seat: CancelSeat,
 }
 
 /// The sending end of a tap's link.
@@ -46,7 +48,7 @@ impl<T: Drop> FromEmitter<T> {
         requires { IsDownOf link.now self.old.down }
         ensures end { IsDownOf link.now self.new.down }
         ensures some { IfSome result (λ s. Gives self.old s self.new) }
-        ensures none { IfNone result ((self.new.hub ≡ self.old.hub) × (self.old.waiting ≡ None) × (self.new.waiting ≡ None) × TakesNone self.old.down self.new.down) }
+        ensures none { IfNone result ((self.new.hub ≡ self.old.hub) × (self.old.waiting ≡ None) × (self.new.waiting ≡ None) × TakesNone self.old.down self.new.down × (self.new.seat ≡ self.old.seat)) }
     {
         match self.waiting.take() {
             Some(signal) => Some(signal),

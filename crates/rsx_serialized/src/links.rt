@@ -5,7 +5,7 @@ ghost use Rattle.rsx_serialized.specs.Opens.{IsEmitterLink, IsTapLink};
 
 use crate::ends::{FromEmitter, ToTap};
 use rsx_demand::{Demand, UNBOUNDED};
-use rsx_link::{CancelSeat, Link};
+use rsx_link::Link;
 use rsx_runtime::{Emitter, Tap};
 use rsx_types::{CAPACITY, HubId, NoMemory, SubId};
 use std::alloc::Global;
@@ -19,8 +19,6 @@ pub struct EmitterLink<T> {
     pub emitter: Emitter<T>,
     /// The end of the graph's holder.
     pub inlet: FromEmitter<T>,
-    /// The right to cancel the link. Nothing is cancelled by it; who closes the link needs it.
-    pub seat: CancelSeat,
 }
 
 /// The link of a tap, with both ends.
@@ -61,8 +59,8 @@ impl<T: Drop> EmitterLink<T> {
                 hub,
                 down,
                 waiting: None,
+                seat,
             },
-            seat,
         })
     }
 }

@@ -35,6 +35,7 @@ use Rattle.rsx_gate.proofs.gate.Gate.TheSendSync as Gate
 use Rattle.rsx_gate.specs.contracts.view.View as View
 use Rattle.rsx_link.proofs.link.Link.TheSendSync as Link
 use Rattle.rsx_link.proofs.up.Up.TheSendSync as Up
+use Rattle.rsx_link.proofs.cancel.CancelSeat.TheSendSync as CancelSeat
 use Rattle.rsx_link.proofs.down.Down.TheSendSync as Down
 use Rattle.rsx_graph.below.rsx_graph_state.specs.contracts.feed.Feed as Feed
 use Rattle.rsx_graph.below.rsx_subscriber.specs.contracts.subscription.Subscription as Subscription
@@ -111,7 +112,7 @@ module _ (O T : RattleType) (ops : Ops O.Denot T.Denot) (clone : Clone O.Denot) 
       struct_send (fields.shape (GraphRegion.the_type O T ops)) (
         g,
         (
-          search (sendable, crosses, Down.the_field_send) depth 40 fits 100000,
+          search (sendable, crosses, Down.the_field_send, CancelSeat.the_field_send) depth 40 fits 100000,
           (search (sendable, crosses, Up.the_field_send) depth 40 fits 100000, (search (sendable, crosses) depth 40 fits 100000, tt)),
         ),
       )

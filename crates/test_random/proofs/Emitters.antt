@@ -8,7 +8,7 @@ use Rattle.rsx_link.specs.declared.link.Link.{Link}
 use Rattle.rsx_runtime.specs.declared.emitter.Emitter.{Emitter}
 use Rattle.rsx_serialized.specs.Calls.{IsAt}
 use Rattle.rsx_serialized.proofs.Lists.{there}
-use Rattle.test_random.specs.Driven.{Along}
+use Rattle.test_random.specs.Returned.{Along}
 use Rattle.test_random.specs.Ends.{AreEmittersOf, IsEmitterOf}
 
 module _ {X : Type 0} where

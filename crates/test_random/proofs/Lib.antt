@@ -2,4 +2,4 @@
 pub mod Along
 pub mod Crosses
 pub mod Emitters
-pub mod Opens
+pub mod Rests

@@ -1,8 +1,6 @@
--- Ends of links that threads have, and a graph behind its gate with all of them.
-use Rattle.std.specs.Prelude.{◌≡◌, ◌≤◌, ℕ, List, Some, IfSome, slice_get}
+-- Ends of links that threads have.
+use Rattle.std.specs.Prelude.{◌≡◌, ℕ, List, Some, IfSome, slice_get}
 use Rattle.rsx_demo.specs.declared.val.Val.{Val}
-use Rattle.rsx_gate.specs.Machine.{all_parts}
-use Rattle.rsx_gate.specs.Seats.{IsSeatOf}
 use Rattle.rsx_link.specs.Ends.{IsCancelSeatOf, IsDownOf, IsUpOf}
 use Rattle.rsx_link.specs.declared.link.Link.{Link}
 use Rattle.rsx_runtime.specs.declared.emitter.Emitter.{Emitter}
@@ -10,11 +8,9 @@ use Rattle.rsx_runtime.specs.declared.tap.Canceller.{Canceller}
 use Rattle.rsx_runtime.specs.declared.tap.Tap.{Tap}
 use Rattle.rsx_serialized.specs.Calls.{IsAt}
 use Rattle.rsx_serialized.specs.declared.region.Links.{Links}
-use Rattle.rsx_types.specs.declared.ops.Ops.{Ghosts as Ops}
-use Rattle.test_random.specs.Driven.{Along}
+use Rattle.test_random.specs.Returned.{Along}
 use Rattle.test_random.specs.declared.beside.Cancellers.{Cancellers}
 use Rattle.test_random.specs.declared.beside.Work.{Work}
-use Rattle.test_random.specs.declared.shared.Shared.{Shared}
 
 module _ {T : Type 0} where
   -- the emitter has the sending end of the link with its number
@@ -43,10 +39,3 @@ pub record IsReady (links : Links Val) (w : Work) : Type 0 where
   pub second : IfSome w.second (IsEmitterOf links.emitters.items)
   pub cancellers : AreCancellersOf links.taps.items w.cancellers
   pub taps : AreTapsOf links.taps.items w.taps.items
-
-module _ {O T : Type 0} {b : Ops O T} where
-  -- the seat has all parts of the gate, and the links have the emitters and the taps at their ends
-  pub record IsShared (s : Shared O T b) : Type 0 where
-    pub seat : IsSeatOf s.graph.gate s.seat × (all_parts ≤ s.seat.me.0.parts)
-    pub emitters : Along s.graph.links.emitters.items s.emitters.items (λ k l e. (e.link ≡ k) × IsUpOf l e.up)
-    pub taps : AreTapsOf s.graph.links.taps.items s.taps.items

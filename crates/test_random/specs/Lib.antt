@@ -1,4 +1,4 @@
 -- Definitions that contracts cite.
-pub mod Driven
 pub mod Ends
 pub mod Integers
+pub mod Returned

@@ -2,25 +2,26 @@
 //!
 //! A run has a graph with one to three hubs, of which one may be fed by an expression over the others, and some subscriptions. Links are
 //! opened for its emitters and its taps, and it goes behind a gate. Then emitters publish, complete and fail, taps request, take, cancel
-//! and make bad requests, and the graph is poked. Once it came back, what each tap gave, with what remains on its link, what waits there
-//! to be sent and what the graph owes, has to be the value of the expression, evaluated from scratch over what was published at the hubs
+//! and make bad requests, and the graph is poked. Once it was closed, what each tap gave, with what was delivered and not taken, and with
+//! what the graph owes, has to be the value of the expression, evaluated from scratch over what was published at the hubs
 //! under what the nodes recorded. Of one that cancelled, what it got has to be the beginning of that value. What was published at a hub
 //! is what its emitter sent, but for what the graph didn't take. Then that is published, too, the graph goes on to its end, and all is
 //! compared again.
 
 ghost use Rattle.std.specs.Prelude.{IfOk};
-ghost use Rattle.test_random.specs.Driven.{HasRest, IsDriven};
+ghost use Rattle.rsx_serialized.specs.Started.{IsStarted};
+ghost use Rattle.test_random.specs.Returned.{HasRest};
 
-use crate::driven::{Call, Driven, drive};
+use crate::driven::{Call, call_tap, publish_at, start};
 use crate::numbers::Numbers;
-use crate::opened::{Opened, open};
 use crate::plans::{Plan, new_graph};
+use crate::returned::Returned;
 use crate::trial::{Log, agrees, begins, from_scratch, joined, value_in};
 use anyhow::{Result, bail};
 use rsx_demo::{Demo, Val, copy_val};
 use rsx_graph::{Deliveries, Graph, Pumped};
 use rsx_model::scratch;
-use rsx_serialized::GraphRegion;
+use rsx_serialized::{Closed, GraphRegion, StartedGraph};
 use rsx_types::{Cause, HubId, Signal, StreamValue, SubId, Tree};
 use std::alloc::Global;
 
@@ -98,9 +99,9 @@ fn try_run(alloc: Global, seed: u32, done: &mut Done) -> Result<()> {
         received: Vec::new(alloc),
         refused: Vec::new(alloc),
     };
-    let opened = turned(alloc, &plan, &mut numbers, &mut told)?;
+    let started = turned(alloc, &plan, &mut numbers, &mut told)?;
     let given = told.received.len();
-    let (mut graph, left) = taken_out(alloc, opened, &plan, &mut told)?;
+    let (mut graph, left) = closed(alloc, started, &mut told)?;
     let mut published = without(alloc, &plan, &told.sent, &left)?;
     compare(alloc, &graph, &plan, &published, &told)?;
     finish(alloc, &mut graph, &plan, left, &mut published, &mut told)?;
@@ -114,43 +115,67 @@ fn try_run(alloc: Global, seed: u32, done: &mut Done) -> Result<()> {
     Ok(())
 }
 
-/// Puts the graph behind a gate, makes the turns, and takes it out again.
+/// Puts the graph behind a gate, and makes the turns.
 fn turned(
     alloc: Global,
     plan: &Plan,
     numbers: &mut Numbers,
     told: &mut Told,
-) -> Result<Opened<Demo>>
-    ensures { IfOk result (λ o. HasRest o) }
+) -> Result<StartedGraph<Demo>>
+    ensures { IfOk result (λ s. IsStarted s) }
 {
     let graph = new_graph(alloc, plan)?;
-    let opened = open(alloc, graph, plan.emitters, &plan.exprs)?;
-    let mut driven = drive(alloc, opened)?;
+    let mut started = start(alloc, graph, &plan.exprs)?;
     for _ in 0..TURNS {
-        turn(alloc, &mut driven, plan, numbers, told)?;
+        turn(alloc, &mut started, plan, numbers, told)?;
     }
-    Ok(driven.stop())
+    Ok(started)
+}
+
+/// Closes the graph, and answers it with what its hubs didn't take of what the emitters sent. What no tap took counts as received.
+///
+/// # Errors
+/// For want of memory.
+fn closed(alloc: Global, started: StartedGraph<Demo>, told: &mut Told) -> Result<(Graph<Demo>, Log)>
+    requires { IsStarted started }
+{
+    let Ok(closed) = started.close(alloc) else {
+        bail!("there is no memory")
+    };
+    let Closed {
+        graph,
+        untaken,
+        unpublished,
+    } = closed;
+    for (sub, signal) in untaken {
+        told.received.push((sub.0, signal))?;
+    }
+    let mut left = Vec::new(alloc);
+    for (hub, signal) in unpublished {
+        left.push((hub.0, signal))?;
+    }
+    Ok((graph, left))
 }
 
 /// Makes a turn: mostly an emitter publishes, a tap takes or requests, or the graph is poked.
 fn turn(
     alloc: Global,
-    driven: &mut Driven<Demo>,
+    started: &mut StartedGraph<Demo>,
     plan: &Plan,
     numbers: &mut Numbers,
     told: &mut Told,
 ) -> Result<()>
-    requires { IsDriven driven.old }
-    ensures { IsDriven driven.new }
+    requires { IsStarted started.old }
+    ensures { IsStarted started.new }
 {
     let sub = numbers.below(plan.subs());
     let call = match numbers.below(64) {
         0..=21 => {
-            driven.poke(alloc, numbers.below(8));
+            let _ = started.poke(alloc, numbers.below(8));
             return Ok(());
         }
         22..=38 => return publish(
-            driven,
+            started,
             numbers.below(plan.emitters),
             numbers,
             &mut told.sent,
@@ -163,7 +188,7 @@ fn turn(
     if let Call::Request(0) = call {
         told.refused.push(sub)?;
     }
-    match driven.call(sub, call) {
+    match call_tap(started, sub, call) {
         None | Some(Signal::Error(Cause::NonPositiveRequest)) => {}
         Some(signal) => told.received.push((sub, signal))?,
     }
@@ -171,9 +196,14 @@ fn turn(
 }
 
 /// Publishes a number by the emitter of a hub, or now and then an ending, and notes what it took.
-fn publish(driven: &mut Driven<Demo>, hub: u32, numbers: &mut Numbers, sent: &mut Log) -> Result<()>
-    requires { IsDriven driven.old }
-    ensures { IsDriven driven.new }
+fn publish(
+    started: &mut StartedGraph<Demo>,
+    hub: u32,
+    numbers: &mut Numbers,
+    sent: &mut Log,
+) -> Result<()>
+    requires { IsStarted started.old }
+    ensures { IsStarted started.new }
 {
     let number = i64::from(numbers.below(9));
     let signal = match numbers.below(64) {
@@ -186,7 +216,7 @@ fn publish(driven: &mut Driven<Demo>, hub: u32, numbers: &mut Numbers, sent: &mu
         Signal::Complete => Signal::Complete,
         Signal::Error(cause) => Signal::Error(*cause),
     };
-    if driven.publish(hub, signal) {
+    if publish_at(started, hub, signal) {
         sent.push((hub, noted))?;
     }
     Ok(())
@@ -196,13 +226,13 @@ fn publish(driven: &mut Driven<Demo>, hub: u32, numbers: &mut Numbers, sent: &mu
 /// and answers the graph and that.
 pub fn taken_out(
     alloc: Global,
-    opened: Opened<Demo>,
+    returned: Returned<Demo>,
     plan: &Plan,
     told: &mut Told,
 ) -> Result<(Graph<Demo>, Log)>
-    requires { HasRest opened }
+    requires { HasRest returned }
 {
-    let mut back = opened;
+    let mut back = returned;
     for sub in 0..plan.subs() {
         take_all(&mut back, sub, &mut told.received)?;
     }
@@ -210,10 +240,9 @@ pub fn taken_out(
     for hub in 0..plan.emitters {
         take_unpublished(&mut back, hub, &mut left)?;
     }
-    let Opened {
+    let Returned {
         region,
         links: _,
-        emitters: _,
         taps: _,
     } = back;
     let GraphRegion {
@@ -229,12 +258,12 @@ pub fn taken_out(
 }
 
 /// Takes all that remains on the link of a tap.
-fn take_all(opened: &mut Opened<Demo>, sub: u32, received: &mut Log) -> Result<()>
-    requires { HasRest opened.old }
-    ensures { HasRest opened.new }
+fn take_all(returned: &mut Returned<Demo>, sub: u32, received: &mut Log) -> Result<()>
+    requires { HasRest returned.old }
+    ensures { HasRest returned.new }
 {
     for _ in 0..MOST_LEFT {
-        match opened.take_rest(sub) {
+        match returned.take_rest(sub) {
             Some(signal) => received.push((sub, signal))?,
             None => break,
         }
@@ -243,12 +272,12 @@ fn take_all(opened: &mut Opened<Demo>, sub: u32, received: &mut Log) -> Result<(
 }
 
 /// Takes all that an emitter sent and the graph didn't take.
-fn take_unpublished(opened: &mut Opened<Demo>, hub: u32, left: &mut Log) -> Result<()>
-    requires { HasRest opened.old }
-    ensures { HasRest opened.new }
+fn take_unpublished(returned: &mut Returned<Demo>, hub: u32, left: &mut Log) -> Result<()>
+    requires { HasRest returned.old }
+    ensures { HasRest returned.new }
 {
     for _ in 0..MOST_LEFT {
-        match opened.take_unpublished(hub) {
+        match returned.take_unpublished(hub) {
             Some(signal) => left.push((hub, signal))?,
             None => break,
         }

@@ -9,23 +9,24 @@ ghost use Rattle.std.specs.Thread.{IsSync};
 ghost use Rattle.rsx_gate.specs.Machine.{all_parts};
 ghost use Rattle.rsx_gate.specs.Seats.{IsSeatOf};
 ghost use Rattle.rsx_link.specs.Ends.{IsUpOf};
-ghost use Rattle.test_random.specs.Driven.{Along, HasRest};
-ghost use Rattle.test_random.specs.Ends.{AreCancellersOf, AreTapsOf, IsCancellerOf, IsReady, IsShared};
+ghost use Rattle.rsx_serialized.specs.Started.{IsStarted};
+ghost use Rattle.test_random.specs.Ends.{AreCancellersOf, AreTapsOf, IsCancellerOf, IsReady};
+ghost use Rattle.test_random.specs.Returned.{Along, HasRest};
 
 use crate::beside::{Cancellers, Pokes, Work, Worked, poke_on_threads, work_beside};
+use crate::driven::start;
 use crate::ends::{canceller_at, pop_emitter};
 use crate::numbers::Numbers;
-use crate::opened::{Opened, open};
 use crate::plans::{Plan, new_graph};
+use crate::returned::Returned;
 use crate::serialized::{Told, compare, finish, taken_out, without};
-use crate::shared::{Shared, share};
 use crate::work::{Emits, Takes, any_signal};
 use anyhow::{Result, bail};
 use rsx_demo::{Demo, Val};
 use rsx_graph::{Graph, SubscriptionState};
 use rsx_link::Link;
 use rsx_runtime::Canceller;
-use rsx_serialized::{Emitter, GraphSeat, Links, SerializedGraph, Tap};
+use rsx_serialized::{Emitter, GraphSeat, Links, SerializedGraph, StartedGraph, Tap};
 use rsx_types::{NoMemory, Signal, SubId};
 use std::alloc::Global;
 use std::thread::Threads;
@@ -185,10 +186,9 @@ fn expect_cancelled(back: &Back, errors: u32) -> Result<()> {
 /// Puts a graph behind a gate, has threads work on it, and takes it out.
 fn on_threads<R: Threads + Sync>(rt: &R, alloc: Global, plan: &Plan, jobs: Jobs) -> Result<Back> {
     let graph = new_graph(alloc, plan)?;
-    let opened = open(alloc, graph, plan.emitters, &plan.exprs)?;
-    let shared = share(alloc, opened)?;
-    let (opened, mut told, errors) = worked(rt, alloc, shared, jobs)?;
-    let (graph, left) = taken_out(alloc, opened, plan, &mut told)?;
+    let started = start(alloc, graph, &plan.exprs)?;
+    let (returned, mut told, errors) = worked(rt, alloc, started, jobs)?;
+    let (graph, left) = taken_out(alloc, returned, plan, &mut told)?;
     Ok(Back {
         graph,
         told,
@@ -201,18 +201,18 @@ fn on_threads<R: Threads + Sync>(rt: &R, alloc: Global, plan: &Plan, jobs: Jobs)
 fn worked<R: Threads + Sync>(
     rt: &R,
     alloc: Global,
-    shared: Shared<Demo>,
+    started: StartedGraph<Demo>,
     jobs: Jobs,
-) -> Result<(Opened<Demo>, Told, u32)>
-    requires { IsShared shared }
+) -> Result<(Returned<Demo>, Told, u32)>
+    requires { IsStarted started }
     ensures { IfOk result (λ r. HasRest r.0) }
 {
-    let Shared {
+    let StartedGraph {
         graph,
         seat,
         emitters,
         taps,
-    } = shared;
+    } = started;
     let work = work_of(graph.links(), emitters, taps, jobs);
     let (mut seat, answer) = work_on(rt, alloc, &graph, seat, jobs.pokes, work);
     let _ = graph.poke(alloc, &mut seat, jobs.last);
@@ -223,13 +223,12 @@ fn worked<R: Threads + Sync>(
         received: taken.received,
         refused: taken.refused,
     };
-    let opened = Opened {
+    let returned = Returned {
         region,
         links,
-        emitters: Vec::new(alloc),
         taps: taken.taps,
     };
-    Ok((opened, told, taken.errors))
+    Ok((returned, told, taken.errors))
 }
 
 /// The work at the ends of these links.

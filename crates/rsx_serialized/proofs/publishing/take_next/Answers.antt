@@ -8,7 +8,7 @@ use Rattle.rsx_serialized.proofs.publishing.take_next.Goals as goal
 pub returns-in-None-clause-takes : goal.returns-in-None-clause-takes
 returns-in-None-clause-takes g c =
     let n = c.in-None.ensures.none in
-    takes_none (g.O.Ops.meaning c.args.graph.now.ops) (state_of c.args.graph.now) c.args.inlet.now c.next.new.self n.0 n.3.received (n.2 ∙ sym n.1)
+    takes_none (g.O.Ops.meaning c.args.graph.now.ops) (state_of c.args.graph.now) c.args.inlet.now c.next.new.self n.0 n.3.received (n.2 ∙ sym n.1) n.4
 
 pub returns-in-None-clause-rests : goal.returns-in-None-clause-rests
 returns-in-None-clause-rests g c e =

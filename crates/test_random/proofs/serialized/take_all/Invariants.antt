@@ -1,5 +1,5 @@
-use Rattle.test_random.specs.Driven.{HasRest}
+use Rattle.test_random.specs.Returned.{HasRest}
 use Rattle.test_random.proofs.serialized.take_all.Given as goal
 
 abbrev pub invariant-loop : goal.invariant-loop
-invariant-loop l = HasRest l.opened
+invariant-loop l = HasRest l.returned

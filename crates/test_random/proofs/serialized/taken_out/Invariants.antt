@@ -1,4 +1,4 @@
-use Rattle.test_random.specs.Driven.{HasRest}
+use Rattle.test_random.specs.Returned.{HasRest}
 use Rattle.test_random.proofs.serialized.taken_out.Given as goal
 
 abbrev pub invariant-loop-sub : goal.invariant-loop-sub

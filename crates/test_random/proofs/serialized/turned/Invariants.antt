@@ -1,5 +1,5 @@
-use Rattle.test_random.specs.Driven.{IsDriven}
+use Rattle.rsx_serialized.specs.Started.{IsStarted}
 use Rattle.test_random.proofs.serialized.turned.Given as goal
 
 abbrev pub invariant-loop : goal.invariant-loop
-invariant-loop l = IsDriven l.driven
+invariant-loop l = IsStarted l.started

@@ -1,0 +1,25 @@
+use Rattle.std.proofs.Common.{◌<◌, arith, length, refl, w64}
+use Rattle.std.proofs.lemmas.Int.{to_z-of_z}
+use Rattle.rsx_serialized.proofs.Drives.{changes_did, requests_put, tap_found, taps_started}
+use Rattle.rsx_serialized.proofs.starting.StartedGraph.request.Goals as goal
+
+pub request_at-requires-after_bounds : goal.request_at-requires-after_bounds
+request_at-requires-after_bounds g c κs within =
+    let len = c.len.ensures in
+    let items = c.args.self.now.taps.ok.0 in
+    let less : c.args.sub.0 < length c.args.self.now.taps.items = omega (arith, len, items, c.if-place-len.false) in
+    tap_found c.args.self.now c.requires c.args.sub.0 less
+
+pub returns : goal.returns
+returns g c =
+    let s = c.args.self.now in
+    let ch = c.request_at.ensures in
+    let len = c.len.ensures in
+    let items = s.taps.ok.0 in
+    let less : c.args.sub.0 < length s.taps.items = omega (arith, len, items, c.if-place-len.false) in
+    record {
+      started = taps_started s c.requires c.request_at.new.taps c.args.sub.0 _ ch;
+      same = (refl, refl, refl);
+      requested = λ there. requests_put _ c.args.n c.request_at.result c.args.sub.0 s.taps.items c.request_at.new.taps.items (to_z-of_z w64 c.args.n c.ranges.n) (changes_did c.args.sub.0 s.taps.items c.request_at.new.taps.items _ _ ch);
+      none = λ past. absurd (omega (arith, less, past));
+    }
