@@ -1,17 +1,18 @@
 -- A signal comes in at an input of a combineLatest, and the rest.
 use Rattle.std.proofs.lemmas.Bool.{and_parts}
 use Rattle.std.proofs.lemmas.List.{length-set}
-use Rattle.std.proofs.Common.{◌≡◌, ℕ, zero, suc, ◌&&◌, Bool, true, false, List, [], ◌∷◌, length, slice_index_or, slice_set, slice_get, Option, Some, None, refl, ap, sym, ◌∙◌, subst, arith}
-use Rattle.rsx_sources.specs.Prelude.{Note, Picks, Done, Signal, Next, Complete, Error, Meaning, Stream, ended_by, signal_then, CountsIn, CountsStep, Incoming, TakesIn, Records, incoming_of, front_of, IsResidualOf}
+use Rattle.std.proofs.Common.{◌≡◌, ℕ, zero, suc, ◌&&◌, Bool, true, false, List, [], ◌∷◌, length, slice_index_or, slice_set, slice_get, Option, Some, None, inl, refl, ap, sym, ◌∙◌, subst, arith, ◌++◌}
+use Rattle.rsx_sources.specs.Prelude.{Note, Picks, Done, Signal, Next, Complete, Error, Meaning, Stream, ended_by, signal_then, CountsIn, CountsStep, Incoming, TakesIn, Records, incoming_of, front_of, IsResidualOf, IsSteppedOut}
 use Rattle.rsx_values.specs.Prelude.{written, combine, unless_chosen}
 use Rattle.rsx_queued.specs.declared.input.QueuedInput.{QueuedInput}
 use Rattle.rsx_queued.specs.declared.output.Output.{Output}
-use Rattle.rsx_queued.specs.declared.output.Output.TheVariants.{Empty}
-use Rattle.rsx_queued.specs.Prelude.{still, with_signal, next_signal, next_signal_at, inputs_left, picked, is_empty, output_then, IsOut}
+use Rattle.rsx_queued.specs.declared.output.Output.TheVariants.{Empty, Waiting}
+use Rattle.rsx_queued.specs.Prelude.{still, with_signal, next_signal, next_signal_at, inputs_left, picked, has_ending, is_empty, is_over, output_then, IsOut}
 use Rattle.rsx_queued.proofs.Changed.{IsPut, is_put, put_left, put_counted, put_not_gone, put_done, put_ends}
-use Rattle.rsx_queued.proofs.Outputs.{empty_is}
+use Rattle.rsx_queued.proofs.Merged.{picks_compose}
+use Rattle.rsx_queued.proofs.Outputs.{empty_is, item_leaves}
 use Rattle.rsx_queued.proofs.Picks.{none_more, padded}
-use Rattle.rsx_combining.specs.Latest.{LatestState, latest_of, latest_comes_out, latest_takes, latest_popped, row_given, may_pick, gives_row, latest_picks, latest_recorded, latest_ended, latest_done, IsLatestCounted, after_signal, after_pick}
+use Rattle.rsx_combining.specs.Latest.{LatestState, latest_of, latest_comes_out, latest_waiting, latest_takes, latest_popped, latest_recording, row_given, may_pick, gives_row, latest_picks, latest_recorded, latest_ended, latest_done, IsLatestCounted, after_signal, after_pick}
 use Rattle.rsx_combining.proofs.Chooses.{pick_records, pick_counts}
 
 -- ---- a signal comes in
@@ -127,6 +128,48 @@ pick_value m old noted new i asked sent made p = (both m old noted new i asked s
 
 pub pick_steps : {T : Type 0} (m : Meaning T) (old noted new : LatestState T) (i asked sent : ℕ) (made : Option T) → IsPicked m old noted new i asked sent made → CountsStep IsLatestCounted latest_ended latest_done old new
 pick_steps m old noted new i asked sent made p = (both m old noted new i asked sent made p).1
+
+-- only an item gives a row
+row_signal : {T : Type 0} (row : List T → T) (latest : List (Option T)) (i : ℕ) (o : Option (Signal T)) (y : T) → Some y ≡ row_given row latest i o → (x : T) × (o ≡ Some (Next x))
+row_signal row latest i None y e = cc
+row_signal row latest i (Some (Next x)) y e = (x, refl)
+row_signal row latest i (Some Complete) y e = cc
+row_signal row latest i (Some (Error c)) y e = cc
+
+-- the row that an input's item gave went out at once
+pub row_gone : {T : Type 0} (m : Meaning T) (old noted new : LatestState T) (i asked sent : ℕ) (y : T) (a : QueuedInput T) → latest_picks old i asked sent ≡ true → IsBut noted old → a ≡ slice_index_or old.inputs i a → Some y ≡ row_given m.row_of old.latest i (next_signal a) →
+    written noted.choices ≡ written old.choices ++ i ∷ [] → new ≡ after_pick noted i None →
+    IsSteppedOut (latest_comes_out m) (latest_waiting m) latest_picks (λ n b s. false) (λ n b s k. ⊥) latest_popped latest_recording latest_recorded IsLatestCounted latest_ended latest_done old asked sent (Some y) new
+row_gone {T} m old noted new i asked sent y a enabled but was row notes after =
+    let parts = and_parts (is_empty old.output) (may_pick (next_signal_at (slice_get old.inputs i)) (gives_row old.latest i) asked sent) enabled in
+    let empty : noted.output ≡ Empty = but.2 ∙ empty_is old.output parts.0 in
+    let s = some_next (next_signal_at (slice_get old.inputs i)) (gives_row old.latest i) asked sent parts.1 in
+    let x = row_signal m.row_of old.latest i (next_signal a) y row in
+    let next : next_signal_at (slice_get noted.inputs i) ≡ Some (Next x.0) = ap (λ qs. next_signal_at (slice_get qs i)) but.0 ∙ next_from old.inputs i a s.0 s.1 was ∙ x.1 in
+    let mid : LatestState T = after_signal noted i (Some y) (Some (Next x.0)) in
+    let left : LatestState T = after_signal noted i None (Some (Next x.0)) in
+    let p : IsPicked m old noted mid i asked sent (Some y) = record { enabled = enabled; but = but; a = a; was = was; row = row; after = ap (after_signal noted i (Some y)) (sym next) } in
+    let P : LatestState T → Type 0 = λ n. IsSteppedOut (latest_comes_out m) (latest_waiting m) latest_picks (λ n b s. false) (λ n b s k. ⊥) latest_popped latest_recording latest_recorded IsLatestCounted latest_ended latest_done old asked sent (Some y) n in
+    subst P (sym (after ∙ ap (after_signal noted i None) next)) (
+      mid,
+      inl (
+        i,
+        record {
+          enabled = enabled;
+          value = pick_value m old noted mid i asked sent (Some y) p;
+          notes = ap Picks notes;
+          composes = picks_compose (written old.choices) (i ∷ []);
+          counts = pick_steps m old noted mid i asked sent (Some y) p;
+        },
+      ),
+      record {
+        waited = refl;
+        popped_out = ((refl, empty), refl, refl, refl);
+        value = λ inc further. item_leaves (Waiting (Next y)) noted.output y (λ cs. combine m.row_of left.latest cs (inputs_left 0 left.inputs (inc.first ∷ inc.others))) unless_chosen refl empty further;
+        notes = refl;
+        counts = (ap has_ending empty, (λ taken n h. record { goes_on = ap is_over empty; some_left = h.some_left; few = h.few; counts = h.counts }), λ j d. d);
+      },
+    )
 
 -- ---- the rest
 

@@ -363,6 +363,39 @@ impl<T: Drop> Machine for CombineLatestNode<T> {
         Err(NotMade::NotEnabled)
     }
 
+    /// Picks the input that `next_pick` names, where an item is next there that gives a row.
+    fn step_item<O: Ops<Item = T>>(
+        &mut self,
+        alloc: Global,
+        ops: &O,
+        asked: u64,
+        sent: u64,
+    ) -> Option<T> {
+        let input = match self.next_pick(asked, sent) {
+            Some(input) => input,
+            None => return None,
+        };
+        if !gives_row(self.latest.as_slice(), input) {
+            return None;
+        }
+        let at = input as usize;
+        let made = match self.row.row_of_next(
+            alloc,
+            ops,
+            self.latest.as_mut_slice(),
+            at,
+            &mut self.inputs[at],
+        ) {
+            Ok(Some(made)) => made,
+            Ok(None) | Err(_) => return None,
+        };
+        if self.choices.push(input).is_err() {
+            return None;
+        }
+        self.take_picked(at, None);
+        Some(made)
+    }
+
     fn want(&self, input: u64, asked: u64, sent: u64) -> u64 {
         credits_at(self.inputs.as_slice(), input)
     }

@@ -12,4 +12,5 @@ pub mod Fresh
 pub mod OneRun
 pub mod Picked
 pub mod Rests
+pub mod SteppedOut
 pub mod Taken

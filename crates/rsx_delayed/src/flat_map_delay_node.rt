@@ -373,6 +373,30 @@ impl<T: Drop> Machine for FlatMapDelayNode<T> {
         Err(NotMade::NotEnabled)
     }
 
+    /// Picks the first lane, where an item is next there; that is the lane that `next_pick` names.
+    fn step_item<O: Ops<Item = T>>(
+        &mut self,
+        alloc: Global,
+        ops: &O,
+        asked: u64,
+        sent: u64,
+    ) -> Option<T> {
+        if sent >= asked || !self.flat.output.is_empty() {
+            return None;
+        }
+        let number = match self.flat.lanes.first_with_item() {
+            Some(number) => number,
+            None => return None,
+        };
+        if self.flat.choices.push(number).is_err() {
+            return None;
+        }
+        match self.flat.lanes.take(number) {
+            Some(Signal::Next(item)) => Some(item),
+            Some(Signal::Complete) | Some(Signal::Error(_)) | None => unreachable!(),
+        }
+    }
+
     fn want(&self, input: u64, asked: u64, sent: u64) -> u64 {
         self.flat.want(input, asked, sent)
     }

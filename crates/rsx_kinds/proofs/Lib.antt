@@ -18,5 +18,6 @@ pub mod Rows
 pub mod Several
 pub mod SeveralDispatch
 pub mod Single
+pub mod SteppedOut
 pub mod Wants
 pub mod Windows

@@ -370,6 +370,27 @@ impl<T: Drop> Machine for AnyNode<T> {
     }
 
     #[inline]
+    fn step_item<O: Ops<Item = T>>(
+        &mut self,
+        alloc: Global,
+        ops: &O,
+        asked: u64,
+        sent: u64,
+    ) -> Option<T> {
+        match self {
+            AnyNode::Source(_)
+            | AnyNode::Plain(_)
+            | AnyNode::PublishOn(_)
+            | AnyNode::PublishOnEager(_)
+            | AnyNode::Window(_) => None,
+            AnyNode::Several(node) => node.step_item(alloc, ops, asked, sent),
+            AnyNode::FlatMap(node) => node.step_item(alloc, ops, asked, sent),
+            AnyNode::FlatMapDelay(node) => node.step_item(alloc, ops, asked, sent),
+            AnyNode::GroupBy(node) => node.step_item(alloc, ops, asked, sent),
+        }
+    }
+
+    #[inline]
     fn want(&self, input: u64, asked: u64, sent: u64) -> u64 {
         match self {
             AnyNode::Source(node) => node.want(input, asked, sent),

@@ -234,14 +234,14 @@ impl<N: Machine> Machine for Boxed<N> {
     }
 
     #[inline]
-    fn row_item<O: Ops<Item = Self::Item>>(
+    fn step_item<O: Ops<Item = Self::Item>>(
         &mut self,
         alloc: Global,
         ops: &O,
         asked: u64,
         sent: u64,
     ) -> Option<Self::Item> {
-        self.node.row_item(alloc, ops, asked, sent)
+        self.node.step_item(alloc, ops, asked, sent)
     }
 
     #[inline]

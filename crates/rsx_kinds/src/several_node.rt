@@ -308,6 +308,22 @@ impl<T: Drop> Machine for SeveralNode<T> {
     }
 
     #[inline]
+    fn step_item<O: Ops<Item = T>>(
+        &mut self,
+        alloc: Global,
+        ops: &O,
+        asked: u64,
+        sent: u64,
+    ) -> Option<T> {
+        match self {
+            SeveralNode::Concat(_) | SeveralNode::Zip(_) => None,
+            SeveralNode::Merge(node) => node.step_item(alloc, ops, asked, sent),
+            SeveralNode::MergeDelay(node) => node.step_item(alloc, ops, asked, sent),
+            SeveralNode::Latest(node) => node.step_item(alloc, ops, asked, sent),
+        }
+    }
+
+    #[inline]
     fn want(&self, input: u64, asked: u64, sent: u64) -> u64 {
         match self {
             SeveralNode::Concat(node) => node.want(input, asked, sent),

@@ -1,21 +1,21 @@
 -- An input is picked: the value under the choice, and the counts.
 use Rattle.std.proofs.lemmas.List.{length-set}
-use Rattle.std.proofs.Common.{◌≡◌, ℕ, zero, suc, ◌+◌, ◌<◌, ◌&&◌, Bool, true, false, List, [], ◌∷◌, length, slice_index_or, slice_set, slice_get, Option, Some, None, option_map, IfSome, refl, ap, sym, ◌∙◌, subst, arith}
-use Rattle.rsx_sources.specs.Prelude.{Note, Picks, Cause, Signal, Next, Complete, Error, note_then, Stream, CountsStep, Incoming, front_of}
+use Rattle.std.proofs.Common.{◌≡◌, ℕ, zero, suc, ◌+◌, ◌<◌, ◌&&◌, Bool, true, false, List, [], ◌∷◌, ◌++◌, length, slice_index_or, slice_set, slice_get, Option, Some, None, option_map, IfSome, inl, refl, ap, sym, ◌∙◌, subst, arith}
+use Rattle.rsx_sources.specs.Prelude.{Note, Picks, Cause, Signal, Next, Complete, Error, Meaning, note_then, Stream, CountsStep, Incoming, IsSteppedOut, front_of}
 use Rattle.rsx_queued.specs.declared.tail.Tail.{Tail}
 use Rattle.rsx_queued.specs.declared.tail.Tail.TheVariants.{Open, Completion, Failure, Taken}
 use Rattle.rsx_queued.specs.Prelude.{first_held, is_ended, unless_taken, still, is_taken, is_gone, next_signal, without, Gives, IsCounted, is_over, is_empty, has_ending, head_of, tail_of, next_signal_at, done_at, inputs_left, are_gone, AreCounted, may_go}
 use Rattle.rsx_queued.proofs.Counts.{counted_without}
-use Rattle.rsx_queued.proofs.Merged.{item_chosen, completion_chosen, last_chosen, failure_chosen}
-use Rattle.rsx_queued.proofs.Outputs.{empty_is, not_ended}
+use Rattle.rsx_queued.proofs.Merged.{item_chosen, completion_chosen, last_chosen, failure_chosen, picks_compose}
+use Rattle.rsx_queued.proofs.Outputs.{empty_is, item_leaves, not_ended}
 use Rattle.rsx_queued.specs.declared.input.QueuedInput.{QueuedInput}
 use Rattle.rsx_queued.specs.declared.output.Output.{Output}
 use Rattle.rsx_queued.specs.declared.output.Output.TheVariants.{Empty, Waiting}
-use Rattle.rsx_values.specs.Pick.{next_of}
+use Rattle.rsx_values.specs.Prelude.{merge_inputs, next_of, written}
 use Rattle.rsx_merging.specs.declared.merge_node.MergeNode.{MergeNode}
 use Rattle.rsx_queued.proofs.Changed.{done_stays, not_gone_at}
 use Rattle.rsx_queued.proofs.Picks.{unequal, next_first, next_beside, none_left}
-use Rattle.rsx_merging.specs.Merge.{merge_of, merge_counted, merge_ended, merge_done}
+use Rattle.rsx_merging.specs.Merge.{merge_of, merge_comes_out, merge_waiting, merge_picks, merge_popped, merge_recording, merge_recorded, merge_counted, merge_ended, merge_done}
 
 -- ---- the choice finds its input
 
@@ -162,3 +162,30 @@ last_counts old new i q p k ins out = ending old new k.empty (ap has_ending out)
 
 pub failure_counts : {T : Type 0} (old new : MergeNode T) (i : ℕ) (c : Cause) (q p : QueuedInput T) → IsPick old.output old.inputs.items i (Error c) q p → new.inputs.items ≡ [] → new.output ≡ Waiting (Error c) → CountsStep merge_counted merge_ended merge_done old new
 failure_counts old new i c q p k ins out = ending old new k.empty (ap has_ending out) (λ j d. rw ins refl)
+
+-- ---- an item of an input is picked, and goes out at once
+
+pub item_gone : {T : Type 0} (m : Meaning T) (old new : MergeNode T) (i asked sent : ℕ) (x : T) (q p : QueuedInput T) → merge_picks old i asked sent ≡ true → IsPick old.output old.inputs.items i (Next x) q p → new.inputs.items ≡ slice_set old.inputs.items i p → new.output ≡ old.output → written new.choices ≡ written old.choices ++ i ∷ [] →
+    IsSteppedOut (merge_comes_out m) (merge_waiting m) merge_picks (λ n a s. false) (λ n a s k. ⊥) merge_popped merge_recording merge_recorded merge_counted merge_ended merge_done old asked sent (Some x) new
+item_gone {T} m old new i asked sent x q p picks k ins out notes =
+    let mid : MergeNode T = record new { output = Waiting (Next x) } in
+    let left : new.output ≡ Empty = out ∙ k.empty in (
+      mid,
+      inl (
+        i,
+        record {
+          enabled = picks;
+          value = λ inc further. rw ins (item_picked old.output (Waiting (Next x)) old.inputs.items i x q p k refl inc further);
+          notes = ap Picks notes;
+          composes = picks_compose (written old.choices) (i ∷ []);
+          counts = item_counts old mid i x q p k ins refl;
+        },
+      ),
+      record {
+        waited = refl;
+        popped_out = ((refl, left), refl, refl);
+        value = λ inc further. item_leaves (Waiting (Next x)) new.output x (λ cs. merge_inputs cs (inputs_left 0 new.inputs.items (inc.first ∷ inc.others))) (λ cs. merge_inputs cs []) refl left further;
+        notes = refl;
+        counts = (ap has_ending left, (λ taken n h. record { not_over = ap is_over left; some_left = h.some_left; few = h.few; counts = h.counts }), λ j d. d);
+      },
+    )

@@ -1,18 +1,18 @@
 -- A lane, or Main, is picked: the value under the choice, and the counts.
-use Rattle.std.proofs.Common.{◌≡◌, ℕ, zero, suc, ◌&&◌, Bool, true, false, nat_eq, nat_lt, if◌then◌else◌, List, [], ◌∷◌, ◌++◌, Option, Some, None, option_map, refl, ap, ◌∙◌, subst}
+use Rattle.std.proofs.Common.{◌≡◌, ℕ, zero, suc, ◌&&◌, Bool, true, false, nat_eq, nat_lt, if◌then◌else◌, List, [], ◌∷◌, ◌++◌, Option, Some, None, option_map, inl, refl, ap, sym, ◌∙◌, subst}
 use Rattle.std.specs.Prelude.{⊤}
-use Rattle.rsx_sources.specs.Prelude.{Note, Picks, Cause, Signal, Next, Complete, Error, Meaning, note_then, Stream, CountsStep, Incoming, incoming_of, front_of, is_nil, head_of}
-use Rattle.rsx_values.specs.Prelude.{merge_inputs, InputLeft, next_of, next_here, TakesNext}
+use Rattle.rsx_sources.specs.Prelude.{Note, Picks, Cause, Signal, Next, Complete, Error, Meaning, note_then, Stream, CountsStep, Incoming, IsSteppedOut, incoming_of, front_of, is_nil, head_of}
+use Rattle.rsx_values.specs.Prelude.{merge_inputs, InputLeft, next_of, next_here, TakesNext, written}
 use Rattle.rsx_values.specs.declared.record.Run.{Run}
-use Rattle.rsx_queued.proofs.Merged.{item_chosen, completion_chosen, last_chosen, failure_chosen, none_chosen}
-use Rattle.rsx_queued.proofs.Outputs.{empty_is, not_ended}
-use Rattle.rsx_queued.specs.Prelude.{merge_behind, is_over, is_empty, output_then}
+use Rattle.rsx_queued.proofs.Merged.{item_chosen, completion_chosen, last_chosen, failure_chosen, none_chosen, picks_compose}
+use Rattle.rsx_queued.proofs.Outputs.{empty_is, item_leaves, not_ended}
+use Rattle.rsx_queued.specs.Prelude.{merge_behind, has_ending, is_over, is_empty, output_then}
 use Rattle.rsx_queued.specs.declared.output.Output.{Output}
 use Rattle.rsx_queued.specs.declared.output.Output.TheVariants.{Empty, Waiting}
 use Rattle.rsx_values.proofs.Nexts.{next_front as next_before}
 use Rattle.rsx_sources.proofs.Incomings.{first_in}
 use Rattle.rsx_merging.specs.Coming.{lanes_to_come, unless_closed}
-use Rattle.rsx_merging.specs.FlatMap.{flat_comes_out, flat_ended, flat_done, flat_picks, left_of, IsGoing}
+use Rattle.rsx_merging.specs.FlatMap.{flat_comes_out, flat_waiting, flat_ended, flat_done, flat_picks, flat_popped, flat_recording, flat_recorded, left_of, IsGoing}
 use Rattle.rsx_merging.specs.Lanes.{next_front, may_take, AreWhole}
 use Rattle.rsx_merging.specs.declared.flat_map_node.FlatMapNode.{FlatMapNode}
 
@@ -166,6 +166,34 @@ ending_counts old new e h closed =
   where
     both : (b : Bool) → b ≡ true → b ≡ false → ⊥
     both b x y = cc
+
+-- ---- an item of a lane is picked, and goes out at once
+
+pub item_gone : {T : Type 0} (m : Meaning T) (old new : FlatMapNode T) (i asked sent : ℕ) (x : T) (js : List (InputLeft T)) → flat_picks old i asked sent ≡ true → IsPick old i (Next x) js → new ≡ with_pick old js old.output new.choices → written new.choices ≡ written old.choices ++ i ∷ [] →
+    IsSteppedOut (flat_comes_out m) (flat_waiting m) flat_picks (λ n a s. false) (λ n a s k. ⊥) flat_popped flat_recording flat_recorded IsGoing flat_ended flat_done old asked sent (Some x) new
+item_gone {T} m old new i asked sent x js picks p is notes =
+    let mid : FlatMapNode T = with_pick old js (Waiting (Next x)) new.choices in
+    let P : FlatMapNode T → Type 0 = λ n. IsSteppedOut (flat_comes_out m) (flat_waiting m) flat_picks (λ n a s. false) (λ n a s k. ⊥) flat_popped flat_recording flat_recorded IsGoing flat_ended flat_done old asked sent (Some x) n in
+    subst P (sym is) (
+      mid,
+      inl (
+        i,
+        record {
+          enabled = picks;
+          value = λ inc further. item_picked m old i x js (Waiting (Next x)) new.choices p refl inc further;
+          notes = ap Picks notes;
+          composes = picks_compose (written old.choices) (i ∷ []);
+          counts = item_counts old i x js (Waiting (Next x)) new.choices p refl;
+        },
+      ),
+      record {
+        waited = refl;
+        popped_out = ((refl, p.empty), refl);
+        value = λ inc further. item_leaves (Waiting (Next x)) old.output x (λ cs. merge_inputs cs (left_of m mid inc.first)) (λ cs. merge_inputs cs []) refl p.empty further;
+        notes = refl;
+        counts = (ap has_ending p.empty, (λ taken n h. record { not_over = ap is_over p.empty; some_left = h.some_left; whole = h.whole; counts = h.counts }), λ j d. d);
+      },
+    )
 
 -- ---- where nothing more is chosen
 

@@ -406,6 +406,30 @@ impl<T: Drop> Machine for FlatMapNode<T> {
         Err(NotMade::NotEnabled)
     }
 
+    /// Picks the first lane, where an item is next there; that is the lane that `next_pick` names.
+    fn step_item<O: Ops<Item = T>>(
+        &mut self,
+        alloc: Global,
+        ops: &O,
+        asked: u64,
+        sent: u64,
+    ) -> Option<T> {
+        if sent >= asked || !self.output.is_empty() {
+            return None;
+        }
+        let number = match self.lanes.first_with_item() {
+            Some(number) => number,
+            None => return None,
+        };
+        if self.choices.push(number).is_err() {
+            return None;
+        }
+        match self.lanes.take(number) {
+            Some(Signal::Next(item)) => Some(item),
+            Some(Signal::Complete) | Some(Signal::Error(_)) | None => unreachable!(),
+        }
+    }
+
     fn want(&self, input: u64, asked: u64, sent: u64) -> u64 {
         saturating_total(
             self.concurrency,

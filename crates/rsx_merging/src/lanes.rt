@@ -152,8 +152,9 @@ impl<T> Model for Lanes<T> {
 }
 
 impl<T: Drop> Lanes<T> {
-    ghost use Rattle.std.specs.Prelude.{◌≡◌, ◌<◌, ℕ, true, false, [], ◌∷◌, ◌++◌, length, slice_index_or, IfSome, IfNone, OnOk, OnErr};
+    ghost use Rattle.std.specs.Prelude.{◌≡◌, ◌<◌, ℕ, true, false, [], ◌∷◌, ◌++◌, length, slice_index_or, Some, IfSome, IfNone, OnOk, OnErr};
     ghost use Rattle.rsx_sources.specs.Slot.{is_nil};
+    ghost use Rattle.rsx_sources.specs.declared.machine.Front.TheVariants.{Item};
     ghost use Rattle.rsx_values.specs.Pick.{InputLeft};
     ghost use Rattle.rsx_values.specs.Steps.{TakesAt, TakesNext};
     ghost use Rattle.rsx_merging.specs.Lanes.{next_front, may_take, IsPlaceOf, waiting_after};
@@ -256,6 +257,19 @@ impl<T: Drop> Lanes<T> {
     {
         match self.place_of(number) {
             Some(at) => self.take_at(at),
+            None => None,
+        }
+    }
+
+    /// The number of the first lane, where an item is next there.
+    pub fn first_with_item(&self) -> Option<u64>
+        ensures { IfSome result (λ i. next_front i self.now ≡ Some Item) }
+    {
+        match self.list.first() {
+            Some(lane) => match lane.front() {
+                Some(Front::Item) => Some(lane.number()),
+                _ => None,
+            },
             None => None,
         }
     }

@@ -28,17 +28,18 @@ pub struct MergeNode<T> {
 }
 
 impl<T: Drop> MergeNode<T> {
-    ghost use Rattle.std.specs.Prelude.{◌≡◌, ◌≤◌, ℕ, List, [], ◌∷◌, IfOk};
+    ghost use Rattle.std.specs.Prelude.{◌≡◌, ◌≤◌, ℕ, List, [], ◌∷◌, true, Some, slice_get, option_map, IfOk, IfSome};
     ghost use Rattle.std.proofs.Math.ListN.{replicate};
     ghost use Rattle.rsx_types.specs.Meaning.{Meaning};
     ghost use Rattle.rsx_types.specs.declared.note.Note.{Note as NoteSpec};
-    ghost use Rattle.rsx_sources.specs.Machine.{Incoming};
+    ghost use Rattle.rsx_sources.specs.Machine.{Incoming, front_of};
+    ghost use Rattle.rsx_sources.specs.declared.machine.Front.TheVariants.{Item};
     ghost use Rattle.rsx_prefetch.specs.declared.TheConstants.{LARGEST};
     ghost use Rattle.rsx_values.specs.Merge.{merge};
     ghost use Rattle.rsx_queued.specs.Input.{fresh_input};
     ghost use Rattle.rsx_queued.specs.Values.{first_values};
-    ghost use Rattle.rsx_queued.specs.Inputs.{picked};
-    ghost use Rattle.rsx_merging.specs.Merge.{merge_comes_out, merge_counted, merge_queued};
+    ghost use Rattle.rsx_queued.specs.Inputs.{next_signal_at, picked};
+    ghost use Rattle.rsx_merging.specs.Merge.{merge_comes_out, merge_counted, merge_picks, merge_queued};
 
     /// The merge of so many inputs, each with a queue of this capacity, 1 to [`LARGEST`](rsx_prefetch::LARGEST). That of no inputs
     /// completes at once.
@@ -79,6 +80,24 @@ impl<T: Drop> MergeNode<T> {
         ensures { result.now ≡ self.now.choices }
     {
         self.choices.runs()
+    }
+
+    /// The lowest-numbered input that can be picked, where an item is next there.
+    fn next_item(&self, asked: u64, sent: u64) -> Option<u64>
+        ensures picks { IfSome result (λ i. merge_picks self.now i asked sent ≡ true) }
+        ensures item { IfSome result (λ i. option_map front_of (next_signal_at (slice_get self.now.inputs.items i)) ≡ Some Item) }
+    {
+        if sent >= asked || !self.output.is_empty() {
+            return None;
+        }
+        for place in 0..self.inputs.len() {
+            match front_at(self.inputs.as_slice(), place as u64) {
+                Some(Front::Item) => return Some(place as u64),
+                Some(_) => return None,
+                None => {}
+            }
+        }
+        None
     }
 }
 
@@ -301,6 +320,27 @@ impl<T: Drop> Machine for MergeNode<T> {
         sent: u64,
     ) -> Result<(), NotMade> {
         Err(NotMade::NotEnabled)
+    }
+
+    /// Picks the input that `next_pick` names, where an item is next there.
+    fn step_item<O: Ops<Item = T>>(
+        &mut self,
+        alloc: Global,
+        ops: &O,
+        asked: u64,
+        sent: u64,
+    ) -> Option<T> {
+        let input = match self.next_item(asked, sent) {
+            Some(input) => input,
+            None => return None,
+        };
+        if self.choices.push(input).is_err() {
+            return None;
+        }
+        match self.inputs[input as usize].take() {
+            Some(Signal::Next(item)) => Some(item),
+            Some(Signal::Complete) | Some(Signal::Error(_)) | None => unreachable!(),
+        }
     }
 
     fn want(&self, input: u64, asked: u64, sent: u64) -> u64 {

@@ -233,7 +233,7 @@ impl<A: Machine, B: Machine<Item = A::Item>> Machine for EitherNode<A, B> {
     }
 
     #[inline]
-    fn row_item<O: Ops<Item = A::Item>>(
+    fn step_item<O: Ops<Item = A::Item>>(
         &mut self,
         alloc: Global,
         ops: &O,
@@ -241,8 +241,8 @@ impl<A: Machine, B: Machine<Item = A::Item>> Machine for EitherNode<A, B> {
         sent: u64,
     ) -> Option<A::Item> {
         match self {
-            EitherNode::Left(node) => node.row_item(alloc, ops, asked, sent),
-            EitherNode::Right(node) => node.row_item(alloc, ops, asked, sent),
+            EitherNode::Left(node) => node.step_item(alloc, ops, asked, sent),
+            EitherNode::Right(node) => node.step_item(alloc, ops, asked, sent),
         }
     }
 

@@ -1,7 +1,7 @@
 -- An item that goes through an empty queue at once.
-use Rattle.std.proofs.Common.{◌≡◌, ℕ, zero, suc, ◌+◌, ◌<◌, Bool, true, ◌&&◌, ◌||◌, List, [], ◌∷◌, ◌++◌, length, Option, Some, None, refl, ap, sym, ◌∙◌, subst, arith, option_map}
+use Rattle.std.proofs.Common.{◌≡◌, ℕ, zero, suc, ◌+◌, ◌<◌, Bool, true, ◌&&◌, ◌||◌, List, [], ◌∷◌, ◌++◌, length, Option, Some, None, refl, ap, sym, ◌∙◌, subst, arith, option_map, inl, inr}
 use Rattle.std.proofs.lemmas.Bool.{true≢false}
-use Rattle.rsx_sources.specs.Prelude.{CAPACITY, Signal, Next, Meaning, Stream, signal_then, CountsStep, Keeps, LetsGo, front_of, IsItemOut, IsRowDone, IsRowOut, is_nil}
+use Rattle.rsx_sources.specs.Prelude.{CAPACITY, Signal, Next, Meaning, Stream, signal_then, CountsStep, Keeps, LetsGo, front_of, IsItemOut, IsRowDone, IsStepDone, IsSteppedOut, is_nil}
 use Rattle.rsx_sources.specs.declared.machine.Machine.{Ghosts as Machine}
 use Rattle.rsx_queued.specs.declared.queued.Queued.{Queued}
 use Rattle.rsx_queued.specs.declared.sender.Sender.TheVariants.{Crossing}
@@ -9,9 +9,13 @@ use Rattle.rsx_queued.specs.declared.tail.Tail.{Tail}
 use Rattle.rsx_queued.specs.declared.tail.Tail.TheVariants.{Open, Completion, Failure, Taken}
 use Rattle.rsx_queued.specs.Held.{held_then, comes_in_at}
 use Rattle.rsx_queued.specs.QueuedLaws.{Shows}
-use Rattle.rsx_queued.specs.Queued.{queued_comes_out, queued_waiting, queued_rows, queued_popped, queued_counted, queued_ended, queued_done, can_move, can_transfer, node_sent}
-use Rattle.rsx_queued.specs.Sender.{sender_comes_out, sender_waiting, sender_rows, sender_rowed, sender_popped, sender_recorded, sender_counted, sender_ended, sender_done}
+use Rattle.rsx_queued.specs.Queued.{queued_comes_out, queued_waiting, queued_picks, queued_rows, queued_popped, queued_counted, queued_ended, queued_done, can_move, can_transfer, node_sent}
+use Rattle.rsx_queued.specs.Sender.{sender_comes_out, sender_waiting, sender_picks, sender_rows, sender_rowed, sender_popped, sender_recording, sender_recorded, sender_counted, sender_ended, sender_done}
 use Rattle.rsx_queued.specs.Transfer.{IsQueuedRow, IsMovedOver}
+
+-- a step of a node with its queue, and then the item out
+abbrev IsGone : {M T : Type 0} → Machine M T → Meaning T → Queued M T → ℕ → ℕ → Option T → Queued M T → Type 0
+IsGone b m old asked taken o new = IsSteppedOut (queued_comes_out b m) (queued_waiting m) (queued_picks b) (queued_rows b) (IsQueuedRow b) queued_popped (λ k i. b.recording k.node i) (λ k. b.recorded k.node) (queued_counted b) (queued_ended b) (queued_done b) old asked taken o new
 
 -- a node with these items in its queue, and no ending
 abbrev holding : {M T : Type 0} → M → List T → Queued M T
@@ -66,9 +70,9 @@ out_at b m n' x = record {
 
 -- the queue was empty, the item could go into it, and it went out of the node
 pub gone : {M T : Type 0} (b : Machine M T) (m : Meaning T) → Shows b m → (old : Queued M T) (n' : M) (asked taken : ℕ) (x : T) → true ≡ is_nil old.queue → true ≡ can_transfer b old asked taken → IsItemOut (b.comes_out m) (b.waiting m) b.popped b.recorded b.counted b.ended b.done old.node x n' →
-    IsRowOut (queued_comes_out b m) (queued_waiting m) (queued_rows b) (IsQueuedRow b) queued_popped (λ k. b.recorded k.node) (queued_counted b) (queued_ended b) (queued_done b) old asked taken (Some x) (record { node = n'; queue = old.queue; tail = old.tail })
+    IsGone b m old asked taken (Some x) (record { node = n'; queue = old.queue; tail = old.tail })
 gone {M} {T} b m shows old n' asked taken x none can out =
-    let R : List T → Tail → Type 0 = λ q t. IsRowOut (queued_comes_out b m) (queued_waiting m) (queued_rows b) (IsQueuedRow b) queued_popped (λ k. b.recorded k.node) (queued_counted b) (queued_ended b) (queued_done b) (record { node = old.node; queue = q; tail = t }) asked taken (Some x) (record { node = n'; queue = q; tail = t }) in
+    let R : List T → Tail → Type 0 = λ q t. IsGone b m (record { node = old.node; queue = q; tail = t }) asked taken (Some x) (record { node = n'; queue = q; tail = t }) in
     let empty : old.queue ≡ [] = nil old.queue none in
     let move : can_move {T = T} (b.shown old.node) [] old.tail asked taken ≡ true = sym (ap (λ q. can_move (b.shown old.node) q old.tail asked taken) empty) ∙ sym can in
     subst (λ q. R q old.tail) (sym empty) (by old.tail move)
@@ -77,21 +81,29 @@ gone {M} {T} b m shows old n' asked taken x none can out =
     nil [] e = refl
     nil (y ∷ ys) e = cc
 
-    by : (t : Tail) → can_move {T = T} (b.shown old.node) [] t asked taken ≡ true → IsRowOut (queued_comes_out b m) (queued_waiting m) (queued_rows b) (IsQueuedRow b) queued_popped (λ k. b.recorded k.node) (queued_counted b) (queued_ended b) (queued_done b) (record { node = old.node; queue = []; tail = t }) asked taken (Some x) (record { node = n'; queue = []; tail = t })
-    by Open e = (holding n' (x ∷ []), row_at b m shows old.node n' asked taken x e out, out_at b m n' x)
+    by : (t : Tail) → can_move {T = T} (b.shown old.node) [] t asked taken ≡ true → IsGone b m (record { node = old.node; queue = []; tail = t }) asked taken (Some x) (record { node = n'; queue = []; tail = t })
+    by Open e = (holding n' (x ∷ []), inr (row_at b m shows old.node n' asked taken x e out), out_at b m n' x)
     by Completion e = cc
     by (Failure c) e = cc
     by Taken e = cc
 
+step_over : {M T : Type 0} (b : Machine M T) (m : Meaning T) (old mid : Queued M T) (asked taken : ℕ) → IsStepDone (queued_comes_out b m) (queued_picks b) (queued_rows b) (IsQueuedRow b) (λ k i. b.recording k.node i) (λ k. b.recorded k.node) (queued_counted b) (queued_ended b) (queued_done b) old asked taken mid →
+    IsStepDone (sender_comes_out b m) (sender_picks b) (sender_rows b) (sender_rowed b) (sender_recording b) (sender_recorded b) (sender_counted b) (sender_ended b) (sender_done b) (Crossing old) asked taken (Crossing mid)
+step_over b m old mid asked taken (inl p) =
+    let h = p.1 in
+    let k = h.counts in
+    inl (p.0, record { enabled = h.enabled; value = h.value; notes = h.notes; composes = h.composes; counts = record { stays_ended = k.stays_ended; counts = k.counts; stays_done = k.stays_done } })
+step_over b m old mid asked taken (inr h) =
+    let k = h.counts in
+    inr (record { enabled = h.enabled; row = h.row; value = h.value; notes = h.notes; counts = record { stays_ended = k.stays_ended; counts = k.counts; stays_done = k.stays_done } })
+
 -- the same of a sender whose edge crosses
-pub gone_over : {M T : Type 0} (b : Machine M T) (m : Meaning T) (old new : Queued M T) (asked taken : ℕ) (o : Option T) → IsRowOut (queued_comes_out b m) (queued_waiting m) (queued_rows b) (IsQueuedRow b) queued_popped (λ k. b.recorded k.node) (queued_counted b) (queued_ended b) (queued_done b) old asked taken o new →
-    IsRowOut (sender_comes_out b m) (sender_waiting b m) (sender_rows b) (sender_rowed b) (sender_popped b) (sender_recorded b) (sender_counted b) (sender_ended b) (sender_done b) (Crossing old) asked taken o (Crossing new)
+pub gone_over : {M T : Type 0} (b : Machine M T) (m : Meaning T) (old new : Queued M T) (asked taken : ℕ) (o : Option T) → IsGone b m old asked taken o new →
+    IsSteppedOut (sender_comes_out b m) (sender_waiting b m) (sender_picks b) (sender_rows b) (sender_rowed b) (sender_popped b) (sender_recording b) (sender_recorded b) (sender_counted b) (sender_ended b) (sender_done b) (Crossing old) asked taken o (Crossing new)
 gone_over b m old new asked taken None h = ap Crossing h
 gone_over b m old new asked taken (Some x) h =
-    let r = h.1 in
-    let o = h.2 in
-    let k = r.counts in (
+    let o = h.2 in (
       Crossing h.0,
-      record { enabled = r.enabled; row = r.row; value = r.value; notes = r.notes; counts = record { stays_ended = k.stays_ended; counts = k.counts; stays_done = k.stays_done } },
+      step_over b m old h.0 asked taken h.1,
       record { waited = o.waited; popped_out = o.popped_out; value = o.value; notes = o.notes; counts = o.counts },
     )

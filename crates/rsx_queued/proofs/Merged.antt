@@ -1,6 +1,7 @@
 -- A choice among the inputs, or lanes, that are left of a node that merges them.
-use Rattle.std.proofs.Common.{◌≡◌, ℕ, List, [], ◌∷◌, Some, refl, ap, sym, ◌∙◌}
+use Rattle.std.proofs.Common.{◌≡◌, ℕ, List, [], ◌∷◌, append_assoc, Some, refl, ap, sym, ◌∙◌}
 use Rattle.rsx_sources.specs.Prelude.{Note, Nothing, Picks, Ended, Cause, Next, Complete, Error, note_then, Stream}
+use Rattle.rsx_sources.specs.Machine.{IsComposed}
 use Rattle.rsx_values.proofs.OneChoice.{merge_step, done_stays}
 use Rattle.rsx_values.specs.Prelude.{merge_inputs, InputLeft, next_of}
 use Rattle.rsx_queued.proofs.Picks.{none_more}
@@ -41,3 +42,9 @@ failure_chosen out out' is js left i c empty put next (Picks cs) = rw (put, empt
 pub none_chosen : {T : Type 0} (out : Output T) (is : List (InputLeft T)) (cs : List ℕ) (rest v : Stream T) → merge_inputs [] is ≡ Some rest → output_then out (Some rest) (merge_inputs [] []) ≡ Some v →
     (further : Note) → note_then (Picks cs) further ≡ Picks cs → merge_behind out is further ≡ Some v
 none_chosen out is cs rest v gives whole further none = rw (none_more cs further none) (ap (λ o. output_then out o (merge_inputs [] [])) gives ∙ whole)
+
+-- choices behind choices, in whatever order they are put together
+pub picks_compose : (cs ds : List ℕ) → IsComposed (Picks cs) (Picks ds)
+picks_compose cs ds Nothing = refl
+picks_compose cs ds (Ended o) = refl
+picks_compose cs ds (Picks es) = ap Picks (append_assoc cs ds es)

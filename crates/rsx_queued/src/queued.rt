@@ -341,9 +341,9 @@ impl<M: Machine<Item = T>, T: Drop> Machine for Queued<M, T> {
         }
     }
 
-    /// The item that the node offers goes out at once where the queue is empty and the item could go into it.
+    /// The item that the node offers goes out at once where the queue is empty and the item could go into it. That is a row.
     #[inline(never)]
-    fn row_item<O: Ops<Item = T>>(
+    fn step_item<O: Ops<Item = T>>(
         &mut self,
         alloc: Global,
         ops: &O,

@@ -230,7 +230,7 @@ impl<M: Machine<Item = T>, T: Drop> Machine for Sender<M, T> {
     }
 
     #[inline]
-    fn row_item<O: Ops<Item = T>>(
+    fn step_item<O: Ops<Item = T>>(
         &mut self,
         alloc: Global,
         ops: &O,
@@ -238,9 +238,8 @@ impl<M: Machine<Item = T>, T: Drop> Machine for Sender<M, T> {
         sent: u64,
     ) -> Option<T> {
         match self {
-            // A node without a queue has nothing to do at once that it wouldn't do by a row.
-            Sender::Direct(_) => None,
-            Sender::Crossing(node) => node.row_item(alloc, ops, asked, sent),
+            Sender::Direct(node) => node.step_item(alloc, ops, asked, sent),
+            Sender::Crossing(node) => node.step_item(alloc, ops, asked, sent),
         }
     }
 

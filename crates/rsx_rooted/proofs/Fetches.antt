@@ -1,15 +1,18 @@
 -- How an item is pulled through a part.
-use Rattle.std.proofs.Common.{◌≡◌, ℕ, ◌+◌, ◌-◌, ◌<◌, true, Option, Some, None, sym, subst, arith}
+use Rattle.std.proofs.Common.{◌≡◌, ℕ, ◌+◌, ◌-◌, ◌<◌, ◌⊎◌, true, Option, Some, None, inl, inr, refl, sym, subst, arith}
 use Rattle.rsx_sources.specs.Prelude.{Meaning, Next}
 use Rattle.rsx_sources.specs.declared.machine.Front.TheVariants.{Item}
+use Rattle.rsx_tree.proofs.Shut.{pick_alive, row_alive}
+use Rattle.rsx_tree.specs.Fetched.{IsRootPick, IsRootRow, IsRootStep, IsRootStepOut}
 use Rattle.rsx_tree.specs.Prelude.{edge_view, can_pass, passed, IsLed}
+use Rattle.rsx_tree.specs.declared.look.NodeMove.TheVariants.{Pick, Row}
 use Rattle.rsx_tree.specs.declared.node.Node.{Node}
 use Rattle.rsx_sources.specs.declared.machine.Machine.{Ghosts as Machine}
 use Rattle.rsx_rooted.specs.Fetched.{IsFetched, IsWorked}
 use Rattle.rsx_rooted.specs.Rooted.{no_room}
 use Rattle.rsx_rooted.specs.Tree.{IsLetGo}
 use Rattle.rsx_rooted.specs.declared.rooted.Rooted.{Rooted}
-use Rattle.rsx_rooted.proofs.Parts.{pumped_none, pumped_on, pumped_driven}
+use Rattle.rsx_rooted.proofs.Parts.{made_inside, made_into, pumped_driven, pumped_made, pumped_none, pumped_on}
 use Rattle.rsx_rooted.proofs.Sends.{sent_out}
 
 -- moves of the tree alone
@@ -46,3 +49,32 @@ fetched_step b m budget left x y z h some k = fetched_on b m budget left (left -
 -- no move
 pub fetched_same : {M T : Type 0} (b : Machine M T) (m : Meaning T) (budget left : ℕ) (x y z : Rooted M) → IsFetched b m budget x None left y → z ≡ y → IsFetched b m budget x None left z
 fetched_same {M} b m budget left x y z h same = let Q : Rooted M → Type 0 = λ k. IsFetched b m budget x None left k in subst Q (sym same) h
+
+-- one move at first, where nothing had changed
+pub fetched_first : {M T : Type 0} (b : Machine M T) (m : Meaning T) (budget left : ℕ) (x y z : Rooted M) → 0 < budget → left ≡ budget → y ≡ x → IsWorked b m 1 y z → IsFetched b m budget x None (left - 1) z
+fetched_first b m budget left x y z some same is k =
+    let here : IsFetched b m budget x None budget y = fetched_same b m budget budget x x y (fetched_nothing b m budget x) is in
+    fetched_step b m budget left x y z (subst (λ (n : ℕ). IsFetched b m budget x None n y) (sym same) here) (omega (arith, some, same)) k
+
+-- the same answer
+pub same_answer : {M T : Type 0} (b : Machine M T) (m : Meaning T) (budget left : ℕ) (old new : Rooted M) (o p : Option T) → o ≡ p → IsFetched b m budget old o left new → IsFetched b m budget old p left new
+same_answer {M} {T} b m budget left old new o p is h = let Q : Option T → Type 0 = λ q. IsFetched b m budget old q left new in subst Q is h
+
+-- ---- a step of the root, and its item over the root edge at once
+
+stepped : {M T : Type 0} (b : Machine M T) (m : Meaning T) (old : Rooted M) (tree : Node M) → IsRootStep b m old.tree (edge_view old.root) tree → ((input : ℕ) × IsRootPick b m old.tree (edge_view old.root) input tree) ⊎ IsRootRow b m old.tree (edge_view old.root) tree → IsWorked b m 1 old (record { tree = tree; root = old.root })
+stepped {M} b m old tree h (inl p) =
+    let new : Rooted M = record { tree = tree; root = old.root } in
+    let move = Pick 0 p.0 in
+    let made = made_inside b m move old new (refl, record { tree = p.1.effect; root = refl }) h.chosen h.balance (λ closed dead. pick_alive b old.tree (edge_view old.root) 0 p.0 p.1.enabled closed dead) refl h.alike in
+    pumped_made b no_room m move old new tt tt p.1.enabled (made_into b no_room m move move old new tt refl made)
+stepped {M} b m old tree h (inr r) =
+    let new : Rooted M = record { tree = tree; root = old.root } in
+    let move = Row 0 in
+    let made = made_inside b m move old new (refl, record { tree = r.effect; root = refl }) h.chosen h.balance (λ closed dead. row_alive b old.tree (edge_view old.root) 0 r.enabled closed dead) refl h.alike in
+    pumped_made b no_room m move old new tt tt r.enabled (made_into b no_room m move move old new tt refl made)
+
+pub fetched_by_root : {M T : Type 0} (b : Machine M T) (m : Meaning T) (budget left : ℕ) (old new : Rooted M) (x : T) → IsRootStepOut b m old.tree (edge_view old.root) (Some x) new.tree → left + 2 ≡ budget → can_pass (edge_view old.root) Item ≡ true → edge_view new.root ≡ passed (edge_view old.root) Item → IsFetched b m budget old (Some x) left new
+fetched_by_root {M} b m budget left old new x h two can carried =
+    let half : Rooted M = record { tree = h.0; root = old.root } in
+    (1, half, omega (arith, two), stepped b m old h.0 h.1 h.1.step, sent_out b m half new (Next x) h.2 can carried)

@@ -276,8 +276,10 @@ impl<M: Machine> Rooted<M> {
     {
         'steps: while *left > 0 {
             let before = *left;
-            if let Err(NoMemory) = self.count_step(alloc, ops, left) {
-                return None;
+            match self.count_step(alloc, ops, left) {
+                Ok(None) => {}
+                Ok(Some(item)) => return Some(item),
+                Err(NoMemory) => return None,
             }
             match self.fetch_item(alloc, ops, left) {
                 Some(item) => return Some(item),
@@ -290,40 +292,79 @@ impl<M: Machine> Rooted<M> {
         None
     }
 
-    /// Makes a pick or a row of the root, where one is enabled, and takes it from the budget that is `left`.
+    /// Makes a pick or a row of the root and sends the item that comes of it over the root edge, where the root does both at once
+    /// ([`Node::step_item`]). Both moves are taken from the budget that is `left`. With no item nothing has changed.
+    #[inline]
+    fn step_out<O: Ops<Item = M::Item>>(
+        &mut self,
+        alloc: Global,
+        ops: &O,
+        left: &mut u32,
+    ) -> Option<M::Item>
+        ensures out { IfSome result (λ x. IsFetched M.Machine (O.meaning ops.now) left.old self.old (Some x) left.new self.new) }
+        ensures none { IfNone result ((left.new ≡ left.old) × (self.new ≡ self.old)) }
+    {
+        if *left < 2 || !self.root.can_carry(Front::Item) {
+            return None;
+        }
+        match self.tree.step_item(alloc, ops, &self.root) {
+            Some(item) => {
+                *left = *left - 2;
+                self.root.carry(Front::Item);
+                Some(item)
+            }
+            None => None,
+        }
+    }
+
+    /// Makes a pick or a row of the root, where one is enabled, and takes it from the budget that is `left`. Where the root gives the item
+    /// of it out at once, that goes over the root edge, by one move more, and is answered.
     #[inline]
     fn count_step<O: Ops<Item = M::Item>>(
         &mut self,
         alloc: Global,
         ops: &O,
         left: &mut u32,
-    ) -> Result<(), NoMemory>
+    ) -> Result<Option<M::Item>, NoMemory>
         requires { 0 < left.old }
-        ensures { IsFetched M.Machine (O.meaning ops.now) left.old self.old None left.new self.new }
+        ensures ok { IfOk result (λ o. IsFetched M.Machine (O.meaning ops.now) left.old self.old o left.new self.new) }
+        ensures err { OnErr result (IsFetched M.Machine (O.meaning ops.now) left.old self.old None left.new self.new) }
     {
-        match self.step(alloc, ops) {
+        let step = match self.tree.first_step(&self.root) {
+            Some(step) => step,
+            None => return Ok(None),
+        };
+        if let Some(item) = self.step_out(alloc, ops, left) {
+            return Ok(Some(item));
+        }
+        match self.make_step(alloc, ops, step) {
             Ok(true) => {
                 *left = *left - 1;
-                Ok(())
+                Ok(None)
             }
-            Ok(false) => Ok(()),
+            Ok(false) => Ok(None),
             Err(NoMemory) => Err(NoMemory),
         }
     }
 
-    /// Makes a pick or a row of the root, where one is enabled, and answers whether it did.
+    /// Makes this pick or row of the root, and answers whether it did; it doesn't make any other move.
     #[inline]
-    fn step<O: Ops<Item = M::Item>>(&mut self, alloc: Global, ops: &O) -> Result<bool, NoMemory>
+    fn make_step<O: Ops<Item = M::Item>>(
+        &mut self,
+        alloc: Global,
+        ops: &O,
+        step: NodeMove,
+    ) -> Result<bool, NoMemory>
         ensures made { IfOk result (λ b. b ≡ true → IsWorked M.Machine (O.meaning ops.now) 1 self.old self.new) }
         ensures none { IfOk result (λ b. b ≡ false → self.new ≡ self.old) }
         ensures same { OnErr result (self.new ≡ self.old) }
     {
-        match self.tree.first_step(&self.root) {
-            Some(NodeMove::Pick(node, input)) => match self.pick(alloc, ops, node, input) {
+        match step {
+            NodeMove::Pick(node, input) => match self.pick(alloc, ops, node, input) {
                 Ok(()) => Ok(true),
                 Err(_) => Err(NoMemory),
             },
-            Some(NodeMove::Row(node)) => match self.make_row(alloc, ops, node) {
+            NodeMove::Row(node) => match self.make_row(alloc, ops, node) {
                 Ok(()) => Ok(true),
                 Err(_) => Err(NoMemory),
             },

@@ -1,11 +1,12 @@
 -- An item that goes through a node in one go, without waiting in it.
-use Rattle.std.specs.Prelude.{◌≡◌, ℕ, Bool, true, false, List, Option, Some, None}
+use Rattle.std.specs.Prelude.{◌≡◌, ◌⊎◌, ℕ, Bool, true, false, List, Option, Some, None}
+use Rattle.rsx_types.specs.Notes.{note_then}
 use Rattle.rsx_types.specs.declared.note.Note.{Note}
 use Rattle.rsx_types.specs.declared.signal.Signal.{Signal}
 use Rattle.rsx_types.specs.declared.signal.Signal.TheVariants.{Next}
 use Rattle.rsx_types.specs.Stream.{Stream}
 use Rattle.rsx_sources.specs.Counts.{CountsIn, CountsOut, CountsStep}
-use Rattle.rsx_sources.specs.Machine.{Incoming, Keeps, LetsGo, TakesIn, front_of}
+use Rattle.rsx_sources.specs.Machine.{Incoming, IsComposed, Keeps, LetsGo, Records, TakesIn, front_of}
 use Rattle.rsx_sources.specs.declared.machine.Front.{Front}
 use Rattle.rsx_sources.specs.declared.machine.Passed.{Passed}
 use Rattle.rsx_sources.specs.declared.machine.Passed.TheVariants.{Item, Kept, Declined}
@@ -34,11 +35,24 @@ pub record IsRowDone {T S : Type 0} (comes_out : S → Incoming T → Note → O
   pub notes : recorded new ≡ recorded old
   pub counts : CountsStep counted ended done old new
 
--- a row was made, and then the item that waited went out; or nothing has changed
-abbrev pub IsRowOut : {T S : Type 0} → (S → Incoming T → Note → Option (Stream T)) → (S → Option (Signal T)) → (S → ℕ → ℕ → Bool) → (S → ℕ → ℕ → S → Type 0) → (S → Signal T → S → Type 0) → (S → Note) → (S → List ℕ → ℕ → Type 0) → (S → Bool) → (S → ℕ → Bool) → S → ℕ → ℕ → Option T → S → Type 0
-IsRowOut {T} {S} comes_out waiting rows rowed popped recorded counted ended done old asked sent (Some x) new =
-    (mid : S) × IsRowDone comes_out rows rowed recorded counted ended done old asked sent mid × IsItemOut comes_out waiting popped recorded counted ended done mid x new
-IsRowOut comes_out waiting rows rowed popped recorded counted ended done old asked sent None new = new ≡ old
+-- input i was picked, and the node recorded it
+pub record IsPickDone {T S : Type 0} (comes_out : S → Incoming T → Note → Option (Stream T)) (picks : S → ℕ → ℕ → ℕ → Bool) (recording : S → ℕ → Note) (recorded : S → Note) (counted : S → List ℕ → ℕ → Type 0) (ended : S → Bool) (done : S → ℕ → Bool) (old : S) (i asked sent : ℕ) (new : S) : Type 0 where
+  pub enabled : picks old i asked sent ≡ true
+  pub value : Records comes_out old (recording old i) new
+  pub notes : recorded new ≡ note_then (recorded old) (recording old i)
+  pub composes : IsComposed (recorded old) (recording old i)
+  pub counts : CountsStep counted ended done old new
+
+-- some input was picked, or a row was made
+abbrev pub IsStepDone : {T S : Type 0} → (S → Incoming T → Note → Option (Stream T)) → (S → ℕ → ℕ → ℕ → Bool) → (S → ℕ → ℕ → Bool) → (S → ℕ → ℕ → S → Type 0) → (S → ℕ → Note) → (S → Note) → (S → List ℕ → ℕ → Type 0) → (S → Bool) → (S → ℕ → Bool) → S → ℕ → ℕ → S → Type 0
+IsStepDone comes_out picks rows rowed recording recorded counted ended done old asked sent new =
+    ((i : ℕ) × IsPickDone comes_out picks recording recorded counted ended done old i asked sent new) ⊎ IsRowDone comes_out rows rowed recorded counted ended done old asked sent new
+
+-- a pick or a row was made, and then the item that waited went out; or nothing has changed
+abbrev pub IsSteppedOut : {T S : Type 0} → (S → Incoming T → Note → Option (Stream T)) → (S → Option (Signal T)) → (S → ℕ → ℕ → ℕ → Bool) → (S → ℕ → ℕ → Bool) → (S → ℕ → ℕ → S → Type 0) → (S → Signal T → S → Type 0) → (S → ℕ → Note) → (S → Note) → (S → List ℕ → ℕ → Type 0) → (S → Bool) → (S → ℕ → Bool) → S → ℕ → ℕ → Option T → S → Type 0
+IsSteppedOut {T} {S} comes_out waiting picks rows rowed popped recording recorded counted ended done old asked sent (Some x) new =
+    (mid : S) × IsStepDone comes_out picks rows rowed recording recorded counted ended done old asked sent mid × IsItemOut comes_out waiting popped recorded counted ended done mid x new
+IsSteppedOut comes_out waiting picks rows rowed popped recording recorded counted ended done old asked sent None new = new ≡ old
 
 -- what came of an item of input i: it was taken in, and what the node put out first went out of it again, an item; or
 -- the node put out nothing for it; or it came back, and nothing has changed

@@ -126,7 +126,7 @@ pub trait Machine {
     ghost use Rattle.rsx_types.specs.Notes.{note_then, unchosen};
     ghost use Rattle.rsx_sources.specs.Counts.{CountsIn, CountsOut, CountsStep, CanStep, IsHungry, AreWithin, ends_input};
     ghost use Rattle.rsx_sources.specs.Machine.{IsComposed, Keeps, TakesIn, Records, front_of, incoming_of};
-    ghost use Rattle.rsx_sources.specs.Passed.{IsItemOut, IsPassed, IsRowOut};
+    ghost use Rattle.rsx_sources.specs.Passed.{IsItemOut, IsPassed, IsSteppedOut};
     ghost use Rattle.rsx_sources.specs.Reading.{IsReadOn, IsResidualOf, takes_published, hub_of};
     ghost use Rattle.rsx_sources.specs.Steps.{IsSameKind, StaysAlike, IsPopped, IsNotTaken, IsNotMade};
 
@@ -274,18 +274,19 @@ pub trait Machine {
         ensures alike { StaysAlike reads crosses pop_allocates signal_allocates step_allocates self.old self.new }
         ensures same { OnErr result (self.new ≡ self.old) };
 
-    /// Makes a row, as `on_row` does, and takes the item out that the node then offers, as `pop_item` does; the item doesn't
-    /// have to wait in the node. A node may answer nothing to any call; then it is unchanged, and the two calls do the work.
+    /// Makes a pick or a row, as `next_pick` and `on_pick`, or `on_row`, do, and takes the item out that the node then offers, as
+    /// `pop_item` does; the item doesn't have to wait in the node. A node may answer nothing to any call; then it is unchanged,
+    /// and those calls do the work.
     #[inline(always)]
-    fn row_item<O: Ops<Item = Self::Item>>(
+    fn step_item<O: Ops<Item = Self::Item>>(
         &mut self,
         alloc: Global,
         ops: &O,
         asked: u64,
         sent: u64,
     ) -> Option<Self::Item>
-        ensures out { IsRowOut (comes_out (O.meaning ops.now)) (waiting (O.meaning ops.now))
-            rows rowed popped recorded counted ended done self.old asked sent result self.new }
+        ensures out { IsSteppedOut (comes_out (O.meaning ops.now)) (waiting (O.meaning ops.now))
+            picks rows rowed popped recording recorded counted ended done self.old asked sent result self.new }
         ensures alike { StaysAlike reads crosses pop_allocates signal_allocates step_allocates self.old self.new }
     {
         None

@@ -1,5 +1,5 @@
 -- How an item is pulled through a row of inputs and through a tree.
-use Rattle.std.proofs.Common.{◌≡◌, ℕ, ◌+◌, ◌-◌, ◌<◌, true, false, ◌&&◌, refl, ap, sym, ◌∙◌, subst, arith, Option, Some, None, option_map}
+use Rattle.std.proofs.Common.{◌≡◌, ℕ, ◌+◌, ◌-◌, ◌<◌, true, false, ◌&&◌, refl, ap, sym, ◌∙◌, subst, arith, inl, inr, Option, Some, None, option_map}
 use Rattle.std.specs.Box.{with_value}
 use Rattle.rsx_sources.specs.Prelude.{Meaning, Next, front_of, IsTakenIn}
 use Rattle.rsx_sources.specs.declared.machine.Front.TheVariants.{Item as ItemFront}
@@ -9,17 +9,18 @@ use Rattle.rsx_tree.specs.declared.fetch.Handed.TheVariants.{Item, Kept, Back}
 use Rattle.rsx_tree.specs.declared.fetch.Pulled.TheVariants.{Item as AnItem, Moved, Nothing}
 use Rattle.rsx_tree.specs.declared.inputs.Inputs.{Inputs, More'}
 use Rattle.rsx_tree.specs.declared.inputs.Inputs.TheViews.{More}
-use Rattle.rsx_tree.specs.Edges.{edge_view, can_pass, passed}
-use Rattle.rsx_tree.specs.Inputs.{size, can_go}
+use Rattle.rsx_tree.specs.Edges.{edge_view, can_pass, is_live, passed}
+use Rattle.rsx_tree.specs.Inputs.{closed_row_if, size, can_go}
 use Rattle.rsx_tree.specs.Allocates.{IsNodeAlike}
 use Rattle.rsx_tree.specs.Changed.{Hold, IsSentOver}
 use Rattle.rsx_tree.specs.Driven.{IsRowRun, IsRowStep}
-use Rattle.rsx_tree.specs.Fetched.{IsOut, IsHanded, IsPulled, IsRunOver, IsRowFetched, IsLed, IsFetched, IsStepOut}
+use Rattle.rsx_tree.specs.Fetched.{IsOut, IsHanded, IsPulled, IsRunOver, IsRowFetched, IsLed, IsFetched, IsRootStep, IsRootStepOut, IsStepOut}
 use Rattle.rsx_tree.specs.Tree.{IsLetGo}
-use Rattle.rsx_tree.proofs.Alike.{driven_alike}
+use Rattle.rsx_tree.proofs.Alike.{driven_alike, picked, row_made, tree_stepped_alike}
 use Rattle.rsx_tree.proofs.Changes.{Rest}
-use Rattle.rsx_tree.specs.Stepped.{IsStepOf, IsStepOver}
+use Rattle.rsx_tree.specs.Stepped.{IsPickedHere, IsRowMadeHere, IsStepOf, IsStepOver, IsSteppedAt}
 use Rattle.rsx_tree.proofs.Drives.{IsUnderWay, under_way_sent, step_here, run_below, run_beside, tree_run, chosen_run, balance_run, size_run}
+use Rattle.rsx_tree.proofs.Noted.{picked_effect, picked_enabled, picked_noted, row_effect, row_enabled, row_noted}
 use Rattle.rsx_tree.proofs.Runs.{leads_by_on}
 use Rattle.rsx_tree.proofs.Trees.{node, popped_tree}
 
@@ -195,3 +196,32 @@ fetched_tree {M} b m asked sent budget left r0 r r' t t' (Some x) same h =
 fetched_tree {M} b m asked sent budget left r0 r r' t t' None same h =
     let R : M → Type 0 = λ k. IsLed b m budget (node k t) asked sent left (node r' t') in
     subst R same (led b m h.0 asked sent budget left r r' t t' h.1 h.2)
+
+-- ---- a step of the root
+
+step_of_root : {M T : Type 0} (b : Machine M T) (m : Meaning T) (n mid : M) (t t' : Inputs M) (e : Edge) → is_live e.state ≡ true → IsStepOf b m n e.demand.asked e.demand.sent mid → t' ≡ closed_row_if (b.ended mid && true) t → IsRootStep b m (node n t) (edge_view e) (node mid t')
+step_of_root b m n mid t t' e live (inl p) shut =
+    let made : IsSteppedAt (IsPickedHere b m p.0) b.ended (node n t) (edge_view e) 0 (node mid t') = record { live = live; made = p.1; inputs = shut } in
+    let noted = picked_noted b m p.0 (node n t) (edge_view e) 0 (node mid t') made in
+    record {
+      step = inl (p.0, record { enabled = picked_enabled b m p.0 (node n t) (edge_view e) 0 (node mid t') made; made = made; effect = picked_effect b m p.0 (node n t) (edge_view e) 0 (node mid t') made });
+      chosen = noted.chosen;
+      balance = noted.balance;
+      alike = tree_stepped_alike b (IsPickedHere b m p.0) (picked b m p.0) b.ended (node n t) (edge_view e) 0 (node mid t') made;
+    }
+step_of_root b m n mid t t' e live (inr r) shut =
+    let made : IsSteppedAt (IsRowMadeHere b m) b.ended (node n t) (edge_view e) 0 (node mid t') = record { live = live; made = r; inputs = shut } in
+    let noted = row_noted b m (node n t) (edge_view e) 0 (node mid t') made in
+    record {
+      step = inr (record { enabled = row_enabled b m (node n t) (edge_view e) 0 (node mid t') made; made = made; effect = row_effect b m (node n t) (edge_view e) 0 (node mid t') made });
+      chosen = noted.chosen;
+      balance = noted.balance;
+      alike = tree_stepped_alike b (IsRowMadeHere b m) (row_made b m) b.ended (node n t) (edge_view e) 0 (node mid t') made;
+    }
+
+-- what a step over the root's edge answered
+pub root_step_out : {M T : Type 0} (b : Machine M T) (m : Meaning T) (n n' : M) (t t' : Inputs M) (e : Edge) (o : Option T) → IsStepOut b m e n t o n' t' → IsRootStepOut b m (node n t) (edge_view e) o (node n' t')
+root_step_out b m n n' t t' e (Some x) h = let s = h.1 in (node h.0 t', step_of_root b m n h.0 t t' e s.live s.made s.shut, item_out b m h.0 n' t' x h.2)
+root_step_out {M} b m n n' t t' e None h =
+    let P : M → Type 0 = λ k. node k t' ≡ node n t in
+    subst P (sym h.0) (ap (node n) h.1)

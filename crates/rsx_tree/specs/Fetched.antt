@@ -1,5 +1,5 @@
 -- An item that is pulled through a tree in one go: the moves that lead to a tree whose root offers it, and then the item out.
-use Rattle.std.specs.Prelude.{◌≡◌, ℕ, ◌+◌, ◌<◌, true, false, Option, Some, None}
+use Rattle.std.specs.Prelude.{◌≡◌, ◌⊎◌, ℕ, ◌+◌, ◌<◌, true, false, Option, Some, None}
 use Rattle.rsx_sources.specs.Prelude.{Meaning, Next, IsItemOut}
 use Rattle.rsx_sources.specs.declared.machine.Machine.{Ghosts as Machine}
 use Rattle.rsx_tree.specs.declared.edge.Edge.{Edge}
@@ -12,9 +12,10 @@ use Rattle.rsx_tree.specs.declared.node.Node.{Node}
 use Rattle.rsx_tree.specs.Allocates.{IsAlike, IsNodeAlike}
 use Rattle.rsx_tree.specs.Balance.{IsBalanced}
 use Rattle.rsx_tree.specs.Changed.{Hold, IsCarried}
-use Rattle.rsx_tree.specs.Chosen.{IsChosen}
+use Rattle.rsx_tree.specs.Chosen.{IsChosen, IsPickedAt, IsRowAt}
 use Rattle.rsx_tree.specs.Driven.{IsDriven, IsRowRun}
-use Rattle.rsx_tree.specs.Stepped.{IsStepOf, IsStepOver}
+use Rattle.rsx_tree.specs.Edges.{EdgeView}
+use Rattle.rsx_tree.specs.Stepped.{IsPickMadeAt, IsRowMadeAt, IsStepOf, IsStepOver, can_pick_in, can_row_in, station_of}
 use Rattle.rsx_tree.specs.Tree.{IsLetGo}
 
 -- the item that waited in a node went out of it, and the same of its calls may allocate
@@ -69,3 +70,29 @@ pub record IsLed {M T : Type 0} (b : Machine M T) (m : Meaning T) (budget : ℕ)
 abbrev pub IsFetched : {M T : Type 0} → Machine M T → Meaning T → ℕ → Node M → ℕ → ℕ → Option T → ℕ → Node M → Type 0
 IsFetched {M} b m budget old asked sent (Some x) left new = (mid : Node M) × IsLed b m budget old asked sent left mid × IsLetGo b m mid (Next x) new
 IsFetched b m budget old asked sent None left new = IsLed b m budget old asked sent left new
+
+-- ---- a step of the root, and the item out
+
+-- the root, over this edge, picked the input
+pub record IsRootPick {M T : Type 0} (b : Machine M T) (m : Meaning T) (old : Node M) (e : EdgeView) (input : ℕ) (new : Node M) : Type 0 where
+  pub enabled : can_pick_in b input (station_of old e 0) ≡ true
+  pub made : IsPickMadeAt b m input old e 0 new
+  pub effect : IsPickedAt b old e 0 input new
+
+-- it made a row
+pub record IsRootRow {M T : Type 0} (b : Machine M T) (m : Meaning T) (old : Node M) (e : EdgeView) (new : Node M) : Type 0 where
+  pub enabled : can_row_in b (station_of old e 0) ≡ true
+  pub made : IsRowMadeAt b m old e 0 new
+  pub effect : IsRowAt b old e 0 new
+
+-- it picked some input, or made a row
+pub record IsRootStep {M T : Type 0} (b : Machine M T) (m : Meaning T) (old : Node M) (e : EdgeView) (new : Node M) : Type 0 where
+  pub step : ((input : ℕ) × IsRootPick b m old e input new) ⊎ IsRootRow b m old e new
+  pub chosen : IsChosen b m old new
+  pub balance : (s : ℕ) → IsBalanced b old s → IsBalanced b new s
+  pub alike : IsAlike b old new
+
+-- it did, and then the item that it offered went out of it; with no item nothing has changed
+abbrev pub IsRootStepOut : {M T : Type 0} → Machine M T → Meaning T → Node M → EdgeView → Option T → Node M → Type 0
+IsRootStepOut {M} b m old e (Some x) new = (mid : Node M) × IsRootStep b m old e mid × IsLetGo b m mid (Next x) new
+IsRootStepOut b m old e None new = new ≡ old

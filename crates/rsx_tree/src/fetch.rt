@@ -7,7 +7,7 @@ ghost use Rattle.rsx_tree.specs.Fetched.{IsHanded, IsOut};
 use crate::edge::Edge;
 use crate::inputs::{Inputs, ask_over};
 use crate::node::Node;
-use crate::step::{row_item_over, step_over};
+use crate::step::{step_item_over, step_over};
 use rsx_sources::{Front, Machine, Passed};
 use rsx_types::{NoMemory, Ops, Signal};
 use std::alloc::Global;
@@ -92,8 +92,8 @@ impl<M: Machine> Inputs<M> {
     }
 
     /// Takes the item out that the sender over this row offers over its edge. Where it offers none, makes a pick or a row of
-    /// it, a row with the item that comes of it at once; or where none is enabled makes moves of the row until the sender offers
-    /// an item.
+    /// it, with the item that comes of it at once where the sender does both; or where none is enabled makes moves of the row
+    /// until the sender offers an item.
     #[cycle(fetch)]
     #[inline(always)]
     fn pull<O: Ops<Item = M::Item>>(
@@ -113,7 +113,7 @@ impl<M: Machine> Inputs<M> {
         if before == 0 {
             return Pulled::Nothing;
         }
-        if let Some(item) = row_item_over(alloc, ops, edge, sender, self) {
+        if let Some(item) = step_item_over(alloc, ops, edge, sender, self) {
             *left -= 1;
             return Pulled::Item(item);
         }
@@ -195,7 +195,8 @@ impl<M: Machine> Inputs<M> {
 }
 
 impl<M: Machine> Node<M> {
-    ghost use Rattle.rsx_tree.specs.Fetched.{IsFetched};
+    ghost use Rattle.rsx_tree.specs.Edges.{edge_view};
+    ghost use Rattle.rsx_tree.specs.Fetched.{IsFetched, IsRootStepOut};
 
     /// Makes enabled moves until the root offers an item, and takes that out; `asked` and `sent` are those of the root's own
     /// edge. Each move takes one of the budget that is `left`.
@@ -226,6 +227,22 @@ impl<M: Machine> Node<M> {
                     .fetch_beside(alloc, ops, &mut self.machine, 0, asked, sent, left),
             },
         }
+    }
+
+    /// Makes a pick or a row of the root, over this edge of its own, and takes the item out that the root then offers, where the root
+    /// does both at once ([`Machine::step_item`]). Where the root ended by the step, all below it is closed.
+    ///
+    /// It answers nothing where the edge isn't live, and where the root answers nothing; then nothing has changed.
+    #[inline]
+    pub fn step_item<O: Ops<Item = M::Item>>(
+        &mut self,
+        alloc: Global,
+        ops: &O,
+        edge: &Edge,
+    ) -> Option<M::Item>
+        ensures { IsRootStepOut M.Machine (O.meaning ops.now) self.old (edge_view edge.now) result self.new }
+    {
+        step_item_over(alloc, ops, edge, &mut self.machine, &mut self.inputs)
     }
 }
 

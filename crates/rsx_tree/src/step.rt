@@ -66,10 +66,10 @@ pub(crate) fn row_over<M: Machine, O: Ops<Item = M::Item>>(
     }
 }
 
-/// Makes a row at a node over this edge and takes the item out that the node then offers, where the node does both at once.
-/// Where the node ended by the row, all below it is closed.
+/// Makes a pick or a row at a node over this edge and takes the item out that the node then offers, where the node does both at
+/// once. Where the node ended by the step, all below it is closed.
 #[inline(always)]
-pub(crate) fn row_item_over<M: Machine, O: Ops<Item = M::Item>>(
+pub(crate) fn step_item_over<M: Machine, O: Ops<Item = M::Item>>(
     alloc: Global,
     ops: &O,
     edge: &Edge,
@@ -82,7 +82,7 @@ pub(crate) fn row_item_over<M: Machine, O: Ops<Item = M::Item>>(
     if !edge.is_live() {
         return None;
     }
-    match node.row_item(alloc, ops, edge.demand.asked, edge.demand.sent) {
+    match node.step_item(alloc, ops, edge.demand.asked, edge.demand.sent) {
         Some(item) => {
             below.close_if(node.has_ended(), true);
             Some(item)

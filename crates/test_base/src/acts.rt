@@ -39,10 +39,10 @@ pub(crate) enum Act {
     RowWithoutMemory(u64, u64),
     /// It can't make a row then.
     CannotRow(u64, u64),
-    /// It makes a row and gives this item out at once, where so many items are asked for and so many were sent.
-    RowGives(u64, u64, i64),
-    /// It gives no item out by a row at once then.
-    RowGivesNothing(u64, u64),
+    /// It makes a pick or a row and gives this item out at once, where so many items are asked for and so many were sent.
+    StepGives(u64, u64, i64),
+    /// It gives no item out by a pick or a row at once then.
+    StepGivesNothing(u64, u64),
     /// Of this input, where so many items are asked for and so many were sent, it wants so many in all.
     Wants(u64, u64, u64, u64),
     /// It has recorded these picks.
@@ -179,6 +179,23 @@ fn picks<M: Machine<Item = i64>>(
     false
 }
 
+/// The node makes a pick or a row and gives this item out at once, where it must the second time if the first growth that it asks for
+/// was refused.
+fn step_gives<M: Machine<Item = i64>>(
+    alloc: Global,
+    node: &mut M,
+    asked: u64,
+    sent: u64,
+    item: i64,
+) -> bool {
+    for _ in 0..2 {
+        if let Some(given) = node.step_item(alloc, &PLENTY, asked, sent) {
+            return given == item;
+        }
+    }
+    false
+}
+
 /// Does what an act says about picks and rows. Answers whether the node answered so; true for other acts.
 fn chooses<M: Machine<Item = i64>>(alloc: Global, node: &mut M, act: Act) -> bool {
     match act {
@@ -194,11 +211,9 @@ fn chooses<M: Machine<Item = i64>>(alloc: Global, node: &mut M, act: Act) -> boo
         Act::MakesRow(asked, sent) => {
             node.can_row(asked, sent) && node.on_row(alloc, &PLENTY, asked, sent) == Ok(())
         }
-        Act::RowGives(asked, sent, item) => {
-            node.row_item(alloc, &PLENTY, asked, sent) == Some(item)
-        }
-        Act::RowGivesNothing(asked, sent) => {
-            node.row_item(alloc, &PLENTY, asked, sent).is_none()
+        Act::StepGives(asked, sent, item) => step_gives(alloc, node, asked, sent, item),
+        Act::StepGivesNothing(asked, sent) => {
+            node.step_item(alloc, &PLENTY, asked, sent).is_none()
         }
         Act::RowWithoutMemory(asked, sent) => {
             node.on_row(alloc, &SCARCE, asked, sent) == Err(NotMade::NoMemory)

@@ -51,7 +51,8 @@ const CONCAT: [Act; 14] = [
 ];
 
 /// A merge with room for two items of each input, into which 1 and 2 come at input 0, and 3 at input 1, complete. Input 1 is picked first.
-const MERGE: [Act; 17] = [
+/// An item goes out at once where nothing waits and it is asked for; an ending doesn't.
+const MERGE: [Act; 20] = [
     Act::Takes(0, 1),
     Act::Takes(0, 2),
     Act::IsBusy(0, 9),
@@ -60,11 +61,14 @@ const MERGE: [Act; 17] = [
     Act::Ends(1, Ending::Done),
     Act::Picks(1, 9, 0),
     Act::Leaves((&[], Ending::Open), (&[3, 1, 2], Ending::Done)),
+    Act::StepGivesNothing(9, 0),
     Act::Gives(3),
-    Act::Picks(0, 9, 1),
-    Act::GivesItem(1),
+    Act::StepGivesNothing(1, 1),
+    Act::StepGives(9, 1, 1),
+    Act::Leaves((&[], Ending::Open), (&[2], Ending::Done)),
     Act::Picks(0, 9, 2),
     Act::Gives(2),
+    Act::StepGivesNothing(9, 3),
     Act::Picks(0, 9, 3),
     Act::Picks(1, 9, 3),
     Act::GivesEnding(Ending::Done),
@@ -96,7 +100,7 @@ const ZIP: [Act; 20] = [
     Act::CannotPick(0, 9, 1),
 ];
 
-/// The second input has 2 and 4, the first has 1. An item that gives no row needs no demand.
+/// The second input has 2 and 4, the first has 1. An item that gives no row needs no demand; one that does may go out as the row at once.
 const LATEST: [Act; 16] = [
     Act::Wants(0, 9, 0, 4),
     Act::PicksNothing(9, 0),
@@ -111,8 +115,8 @@ const LATEST: [Act; 16] = [
     Act::Picks(0, 1, 0),
     Act::GivesItem(2),
     Act::CannotPick(1, 1, 1),
-    Act::Picks(1, 2, 1),
-    Act::Gives(4),
+    Act::StepGivesNothing(1, 1),
+    Act::StepGives(2, 1, 4),
     Act::Recorded(&[1, 0, 1]),
 ];
 
@@ -232,17 +236,18 @@ const GROUP_STAGES: [Act; 15] = [
 ];
 
 /// The node `flatMap` with such lanes: each item comes twice, and its lane is made when the item comes in.
-const FLAT_STAGES: [Act; 14] = [
+const FLAT_STAGES: [Act; 15] = [
     Act::Takes(0, 4),
     Act::Takes(0, 5),
     Act::Picks(0, 9, 0),
     Act::Gives(2),
     Act::Picks(1, 9, 1),
     Act::Gives(2),
-    Act::Picks(0, 9, 2),
-    Act::Gives(1),
+    Act::StepGives(9, 2, 1),
+    Act::StepGivesNothing(9, 3),
     Act::Picks(0, 9, 3),
     Act::Ends(0, Ending::Done),
+    Act::StepGivesNothing(3, 3),
     Act::Picks(1, 9, 3),
     Act::Gives(1),
     Act::Picks(1, 9, 4),
@@ -263,15 +268,15 @@ const GROUP_FAULT: [Act; 5] = [
 const QUEUED: [Act; 14] = [
     Act::GivesNothing,
     Act::MakesRow(9, 0),
-    Act::RowGivesNothing(9, 0),
+    Act::StepGivesNothing(9, 0),
     Act::MakesRow(9, 0),
     Act::Leaves((&[], Ending::Open), (&[1, 2, 3], Ending::Done)),
     Act::Gives(1),
     Act::GivesItem(2),
-    Act::RowGivesNothing(2, 2),
-    Act::RowGives(9, 2, 3),
+    Act::StepGivesNothing(2, 2),
+    Act::StepGives(9, 2, 3),
     Act::Leaves((&[], Ending::Open), (&[], Ending::Done)),
-    Act::RowGivesNothing(9, 3),
+    Act::StepGivesNothing(9, 3),
     Act::MakesRow(9, 3),
     Act::GivesEnding(Ending::Done),
     Act::GivesNothing,

@@ -99,24 +99,24 @@ fetch_row-returns-in-None g t c =
 pub pull-returns-in-Ok-true : goal.pull-returns-in-Ok-true
 pull-returns-in-Ok-true g t c =
     let some = c.if-before-eq0.false in
-    let none = c.in_default-row_item_over.ensures.out in
-    pulled_step g.M.Machine (g.O.Ops.meaning c.args.ops.now) c.args.left.now c.args.edge.now c.args.sender.now c.row_item_over.new.node c.step_over.new.node c.args.self.now c.row_item_over.new.below c.step_over.new.below (omega (arith, some)) (none.0 ∙ c.in_default.ensures.none) none.1 (c.in-Ok-true.ensures.made c.in-Ok-true.field-0-test)
+    let none = c.in_default-step_item_over.ensures.out in
+    pulled_step g.M.Machine (g.O.Ops.meaning c.args.ops.now) c.args.left.now c.args.edge.now c.args.sender.now c.step_item_over.new.node c.step_over.new.node c.args.self.now c.step_item_over.new.below c.step_over.new.below (omega (arith, some)) (none.0 ∙ c.in_default.ensures.none) none.1 (c.in-Ok-true.ensures.made c.in-Ok-true.field-0-test)
 
 pub pull-returns-in-Some-fetch_row : goal.pull-returns-in-Some-fetch_row
 pull-returns-in-Some-fetch_row g t c =
     let still = c.in-Ok-false.ensures.same c.in-Ok-false.field-0-test in
-    let none = c.in_default-row_item_over.ensures.out in
+    let none = c.in_default-step_item_over.ensures.out in
     pulled_item g.M.Machine (g.O.Ops.meaning c.args.ops.now) c.args.left.now c.fetch_row.new.left c.args.edge.now c.args.sender.now c.step_over.new.node c.fetch_row.new.receiver c.args.self.now c.step_over.new.below c.fetch_row.new.self c.in-Some-fetch_row.item
     (still.0 ∙ none.0 ∙ c.in_default.ensures.none) (still.1 ∙ none.1) c.in-Some-fetch_row.ensures
 
 pub pull-returns-else-left-before : goal.pull-returns-else-left-before
 pull-returns-else-left-before g t c =
     let still = c.in-Ok-false.ensures.same c.in-Ok-false.field-0-test in
-    let none = c.in_default-row_item_over.ensures.out in
+    let none = c.in_default-step_item_over.ensures.out in
     pulled_moved g.M.Machine (g.O.Ops.meaning c.args.ops.now) c.args.left.now c.fetch_row.new.left c.args.edge.now c.args.sender.now c.fetch_row.new.receiver c.args.self.now c.fetch_row.new.self c.if-left-before.false
     (pulled_run g.M.Machine (g.O.Ops.meaning c.args.ops.now) c.args.left.now c.fetch_row.new.left c.args.edge.now c.args.sender.now c.step_over.new.node c.fetch_row.new.receiver c.args.self.now c.step_over.new.below c.fetch_row.new.self (still.0 ∙ none.0 ∙ c.in_default.ensures.none) (still.1 ∙ none.1) c.in-None.ensures)
 
-pub pull-returns-in-Some-row_item_over : goal.pull-returns-in-Some-row_item_over
-pull-returns-in-Some-row_item_over g t c =
+pub pull-returns-in-Some-step_item_over : goal.pull-returns-in-Some-step_item_over
+pull-returns-in-Some-step_item_over g t c =
     let some = c.if-before-eq0.false in
-    pulled_step_out g.M.Machine (g.O.Ops.meaning c.args.ops.now) c.args.left.now c.args.edge.now c.args.sender.now c.pop_item.new.self c.row_item_over.new.node c.args.self.now c.row_item_over.new.below c.in-Some-row_item_over.item (omega (arith, some)) c.in_default.ensures.none c.in-Some-row_item_over.ensures.out
+    pulled_step_out g.M.Machine (g.O.Ops.meaning c.args.ops.now) c.args.left.now c.args.edge.now c.args.sender.now c.pop_item.new.self c.step_item_over.new.node c.args.self.now c.step_item_over.new.below c.in-Some-step_item_over.item (omega (arith, some)) c.in_default.ensures.none c.in-Some-step_item_over.ensures.out

@@ -1,5 +1,5 @@
 use Rattle.rsx_queued.proofs.Going.{gone}
-use Rattle.rsx_queued.proofs.queued.QueuedMachine.row_item.Goals as goal
+use Rattle.rsx_queued.proofs.queued.QueuedMachine.step_item.Goals as goal
 
 pub returns-in-Some-clause-out : goal.returns-in-Some-clause-out
 returns-in-Some-clause-out g c =
