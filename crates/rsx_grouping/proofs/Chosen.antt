@@ -182,6 +182,18 @@ picks_at n i asked sent h e =
     let other : nat_eq i MAIN ≡ false = grind (arith, nat_tests) in
     rw other at (and_right (is_empty n.output) (can_pick_from n.table n.main i asked sent) h)
 
+picked_within : {T : Type 0} (rows : List (KeyedLane T)) (i : ℕ) (done : Bool) (asked sent : ℕ) → can_pick_at (slice_get rows i) done asked sent ≡ true → i < length rows
+picked_within [] i done asked sent h = cc
+picked_within (r ∷ rows) zero done asked sent h = omega arith
+picked_within (r ∷ rows) (suc i) done asked sent h = let lt = picked_within rows i done asked sent h in omega (arith, lt)
+
+-- a lane of the table that can be picked can be picked of the node, whose slot is empty
+pub lane_picks : {T : Type 0} (n : GroupByNode T) (i asked sent : ℕ) → is_empty n.output ≡ true → length n.table < 2 ^ 64 → can_pick_at (slice_get n.table i) (is_done n.main) asked sent ≡ true → group_picks n i asked sent ≡ true
+lane_picks n i asked sent empty small at =
+    let within = picked_within n.table i (is_done n.main) asked sent at in
+    let other : nat_eq i MAIN ≡ false = grind (arith, nat_tests, within, small) in
+    rw (empty, other) at
+
 -- a lane that can be picked is there, and where the pick completes it the input is done
 pub record IsPickable {T : Type 0} (n : GroupByNode T) (i : ℕ) : Type 0 where
   pub row : KeyedLane T

@@ -4,6 +4,7 @@ pub mod Copies
 pub mod Fresh
 pub mod Idle
 pub mod Lanes
+pub mod MayWait
 pub mod Picks
 pub mod Rests
 pub mod SeenKeys

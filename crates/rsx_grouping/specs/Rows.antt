@@ -1,8 +1,10 @@
 -- The lanes of a `groupBy` with their keys.
-use Rattle.std.specs.Prelude.{⊤, ℕ, Bool, true, false, ◌&&◌, List, [], ◌∷◌, length, map, Option, Some, None}
+use Rattle.std.specs.Prelude.{⊤, ℕ, zero, suc, Bool, true, false, ◌&&◌, List, [], ◌∷◌, length, map, Option, Some, None}
 use Rattle.rsx_demand.specs.Demand.{saturating_total}
 use Rattle.rsx_grouping.specs.Lane.{is_quiet, is_gone, can_pick, GoesOn}
 use Rattle.rsx_grouping.specs.declared.table.KeyedLane.{KeyedLane}
+use Rattle.rsx_grouping.specs.declared.table.MayWait.{MayWait}
+use Rattle.rsx_grouping.specs.declared.table.MayWait.TheVariants.{Anywhere, At, Nowhere}
 
 -- their keys
 abbrev pub keys_of : {T : Type 0} → List (KeyedLane T) → List ℕ
@@ -12,6 +14,23 @@ keys_of rows = map (λ r. r.key) rows
 abbrev pub are_quiet : {T : Type 0} → List (KeyedLane T) → Bool
 are_quiet [] = true
 are_quiet (r ∷ rows) = is_quiet r.lane && are_quiet rows
+
+-- whether nothing waits in the lane at a place, if there is one
+abbrev pub is_quiet_at : {T : Type 0} → Option (KeyedLane T) → Bool
+is_quiet_at None = true
+is_quiet_at (Some r) = is_quiet r.lane
+
+-- whether nothing waits in any but the one at a place
+abbrev pub are_quiet_beside : {T : Type 0} → ℕ → List (KeyedLane T) → Bool
+are_quiet_beside i [] = true
+are_quiet_beside zero (r ∷ rows) = are_quiet rows
+are_quiet_beside (suc i) (r ∷ rows) = is_quiet r.lane && are_quiet_beside i rows
+
+-- whether it is so where something may wait
+abbrev pub is_told : {T : Type 0} → MayWait → List (KeyedLane T) → Bool
+is_told Nowhere rows = are_quiet rows
+is_told (At i) rows = are_quiet_beside i rows
+is_told Anywhere rows = true
 
 -- whether the endings of all were picked
 abbrev pub are_gone : {T : Type 0} → List (KeyedLane T) → Bool

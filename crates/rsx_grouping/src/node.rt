@@ -402,15 +402,18 @@ impl<T: Drop> Machine for GroupByNode<T> {
 
     #[inline(never)]
     fn next_pick(&self, asked: u64, sent: u64) -> Option<u64> {
-        for at in 0..self.table.len() {
-            if self.can_pick(at as u64, asked, sent) {
-                return Some(at as u64);
-            }
+        let is_free = self.output.is_empty();
+        if !is_free {
+            return None;
         }
-        if self.can_pick(MAIN, asked, sent) {
-            return Some(MAIN);
+        let count = self.table.len();
+        if let Some(at) = self.table.next_pick(self.main.is_done(), asked, sent) {
+            return Some(at as u64);
         }
-        None
+        match self.main.is_ready() {
+            true => Some(MAIN),
+            false => None,
+        }
     }
 
     fn on_pick<O: Ops<Item = T>>(

@@ -1,13 +1,14 @@
 //! The lanes of a `groupBy`, each with its key.
 
-ghost use Rattle.std.specs.Prelude.{◌≡◌, ◌<◌, ◌^◌, true, false, [], length, nat_eq, slice_get, IfOk, IfErr, OnOk, OnErr, List};
+ghost use Rattle.std.specs.Prelude.{◌≡◌, ◌<◌, ◌^◌, ◌++◌, ◌∷◌, ℕ, true, false, [], length, nat_eq, slice_get, slice_set, IfOk, IfErr, IfNone, IfSome, OnOk, OnErr, List};
 ghost use Rattle.std.specs.Set.{is_member};
 ghost use Rattle.rsx_values.specs.Group.{see, has_place};
 ghost use Rattle.rsx_grouping.specs.Keys.{AreDistinct};
 ghost use Rattle.rsx_grouping.specs.Lane.{PickGoesOn};
-ghost use Rattle.rsx_grouping.specs.Rows.{keys_of, are_quiet, are_gone, is_gone_at, can_pick_at, GoOn, waiting_after};
+ghost use Rattle.rsx_grouping.specs.Rows.{keys_of, are_quiet, are_gone, is_gone_at, is_quiet_at, is_told, can_pick_at, GoOn, waiting_after};
 ghost use Rattle.rsx_grouping.specs.Table.{TakesKeyed, TakesFirstAt, CommitsAt};
 ghost use Rattle.rsx_grouping.specs.declared.table.KeyedLane.{KeyedLane as KeyedLaneSpec};
+ghost use Rattle.rsx_grouping.specs.declared.table.MayWait.TheVariants as MayWait;
 
 use crate::keys::LaneKeys;
 use crate::lane::{Lane, LanePick, Laning};
@@ -24,6 +25,18 @@ pub struct KeyedLane<T> {
     pub lane: Lane<T>,
 }
 
+/// In which lanes something may wait. As long as the input goes on, an item is taken in only where nothing waits, so that it may wait
+/// in its own lane alone, and no other lane has to be looked at.
+#[derive(Clone, Copy, Drop)]
+pub(crate) enum MayWait {
+    /// Nothing waits in any lane.
+    Nowhere,
+    /// Nothing waits in any lane but the one at this place.
+    At(usize),
+    /// It isn't known.
+    Anywhere,
+}
+
 /// The lanes, in the order in which their keys came first. Contracts see the list of them.
 #[derive(Drop)]
 pub struct LaneTable<T> {
@@ -31,14 +44,16 @@ pub struct LaneTable<T> {
     keys: LaneKeys,
     // The lanes, each at the place of its key.
     rows: Vec<KeyedLane<T>>,
+    // In which of them something may wait.
+    may_wait: MayWait,
 }
 
 impl<T> Model for LaneTable<T> {
-    ghost use Rattle.std.specs.Prelude.{◌≡◌, List};
+    ghost use Rattle.std.specs.Prelude.{◌≡◌, List, true};
     ghost use Rattle.std.specs.Coded.{codes};
     ghost use Rattle.rsx_grouping.specs.Code.{chain_code};
     ghost use Rattle.rsx_grouping.specs.Keys.{AreDistinct};
-    ghost use Rattle.rsx_grouping.specs.Rows.{keys_of};
+    ghost use Rattle.rsx_grouping.specs.Rows.{is_told, keys_of};
     ghost use Rattle.rsx_grouping.specs.declared.table.KeyedLane.{KeyedLane};
 
     ghost Value = { List (KeyedLane T) };
@@ -47,7 +62,7 @@ impl<T> Model for LaneTable<T> {
 
     ghost view = { λ t. t.rows.items };
 
-    ghost invariant = { λ t. (t.keys ≡ keys_of t.rows.items) × AreDistinct (keys_of t.rows.items) };
+    ghost invariant = { λ t. (t.keys ≡ keys_of t.rows.items) × AreDistinct (keys_of t.rows.items) × (is_told t.may_wait t.rows.items ≡ true) };
 }
 
 /// Whether nothing waits in any of these lanes.
@@ -80,6 +95,104 @@ fn waiting_after<T: Drop>(rows: &[KeyedLane<T>], count: u64) -> u64
     }
 }
 
+/// Whether nothing waits in the lane at this place, if there is one.
+fn is_quiet_at<T: Drop>(rows: &[KeyedLane<T>], at: usize) -> bool
+    ensures { result ≡ is_quiet_at (slice_get rows.now at) }
+{
+    match rows.get(at) {
+        Some(row) => row.lane.is_quiet(),
+        None => true,
+    }
+}
+
+/// Whether nothing waits in any of these lanes, where it is told in which something may wait.
+fn are_told_quiet<T: Drop>(rows: &[KeyedLane<T>], may_wait: MayWait) -> bool
+    requires { is_told may_wait rows.now ≡ true }
+    ensures { result ≡ are_quiet rows.now }
+{
+    match may_wait {
+        MayWait::Nowhere => true,
+        MayWait::At(at) => is_quiet_at(rows, at),
+        MayWait::Anywhere => are_quiet(rows),
+    }
+}
+
+/// In which of these lanes something may wait, once the one at this place is another one.
+fn may_wait_beside<T: Drop>(rows: &[KeyedLane<T>], may_wait: MayWait, at: usize) -> MayWait
+    requires { is_told may_wait rows.now ≡ true }
+    ensures { (row : KeyedLaneSpec T) → is_told result (slice_set rows.now at row) ≡ true }
+{
+    if is_only(may_wait, at) || are_told_quiet(rows, may_wait) {
+        return MayWait::At(at);
+    }
+    MayWait::Anywhere
+}
+
+/// Whether something may wait in the lane at this place alone.
+fn is_only(may_wait: MayWait, at: usize) -> bool
+    ensures { result ≡ true → may_wait ≡ MayWait.At at }
+{
+    match may_wait {
+        MayWait::At(other) => other == at,
+        MayWait::Nowhere | MayWait::Anywhere => false,
+    }
+}
+
+/// In which of these lanes something may wait, once one more stands behind them.
+fn may_wait_behind<T: Drop>(rows: &[KeyedLane<T>], may_wait: MayWait) -> MayWait
+    requires { is_told may_wait rows.now ≡ true }
+    ensures { (row : KeyedLaneSpec T) → is_told result (rows.now ++ row ∷ []) ≡ true }
+{
+    match are_told_quiet(rows, may_wait) {
+        true => MayWait::At(rows.len()),
+        false => MayWait::Anywhere,
+    }
+}
+
+/// The first of these lanes that can be picked, of those in which something may wait, while the input goes on.
+fn next_of_waiting<T: Drop>(
+    rows: &[KeyedLane<T>],
+    may_wait: MayWait,
+    asked: u64,
+    sent: u64,
+) -> Option<usize>
+    requires { is_told may_wait rows.now ≡ true }
+    ensures some { IfSome result (λ i. can_pick_at (slice_get rows.now i) false asked sent ≡ true) }
+    ensures none { IfNone result ((i : ℕ) → can_pick_at (slice_get rows.now i) false asked sent ≡ false) }
+{
+    match may_wait {
+        MayWait::Nowhere => None,
+        MayWait::At(at) => match can_pick_at(rows, at, false, asked, sent) {
+            true => Some(at),
+            false => None,
+        },
+        MayWait::Anywhere => next_of_all(rows, false, asked, sent),
+    }
+}
+
+/// The first of these lanes that can be picked.
+fn next_of_all<T: Drop>(rows: &[KeyedLane<T>], done: bool, asked: u64, sent: u64) -> Option<usize>
+    ensures some { IfSome result (λ i. can_pick_at (slice_get rows.now i) done asked sent ≡ true) }
+    ensures none { IfNone result ((i : ℕ) → can_pick_at (slice_get rows.now i) done asked sent ≡ false) }
+{
+    for at in 0..rows.len() {
+        if can_pick_at(rows, at, done, asked, sent) {
+            return Some(at);
+        }
+    }
+    None
+}
+
+/// Whether the lane at this place, if there is one, can be picked.
+fn can_pick_at<T: Drop>(rows: &[KeyedLane<T>], at: usize, done: bool, asked: u64, sent: u64) -> bool
+    ensures { result ≡ can_pick_at (slice_get rows.now at) done asked sent }
+{
+    match rows.get(at) {
+        Some(row) => row.lane.can_pick(done, asked, sent),
+        None => false,
+    }
+}
+
 impl<T: Drop> LaneTable<T> {
     /// No lanes. It takes no memory.
     pub fn new(alloc: Global) -> LaneTable<T>
@@ -88,6 +201,7 @@ impl<T: Drop> LaneTable<T> {
         LaneTable {
             keys: LaneKeys::new(alloc),
             rows: Vec::new(alloc),
+            may_wait: MayWait::Nowhere,
         }
     }
 
@@ -121,11 +235,11 @@ impl<T: Drop> LaneTable<T> {
         self.keys.has_place(key)
     }
 
-    /// Whether nothing waits in any lane.
+    /// Whether nothing waits in any lane. It looks at one lane at most, but where it isn't known in which something may wait.
     pub fn is_quiet(&self) -> bool
         ensures { result ≡ are_quiet self.now }
     {
-        are_quiet(self.rows.as_slice())
+        are_told_quiet(self.rows.as_slice(), self.may_wait)
     }
 
     /// Whether the endings of all lanes were picked.
@@ -139,9 +253,19 @@ impl<T: Drop> LaneTable<T> {
     pub fn can_pick(&self, at: usize, done: bool, asked: u64, sent: u64) -> bool
         ensures { result ≡ can_pick_at (slice_get self.now at) done asked sent }
     {
-        match self.rows.get(at) {
-            Some(row) => row.lane.can_pick(done, asked, sent),
-            None => false,
+        can_pick_at(self.rows.as_slice(), at, done, asked, sent)
+    }
+
+    /// A lane that can be picked, the one with the lowest number, if there is one. Until the input is done it looks only where something may
+    /// wait.
+    pub fn next_pick(&self, done: bool, asked: u64, sent: u64) -> Option<usize>
+        ensures some { IfSome result (λ i. can_pick_at (slice_get self.now i) done asked sent ≡ true) }
+        ensures none { IfNone result ((i : ℕ) → can_pick_at (slice_get self.now i) done asked sent ≡ false) }
+    {
+        let rows = self.rows.as_slice();
+        match done {
+            true => next_of_all(rows, done, asked, sent),
+            false => next_of_waiting(rows, self.may_wait, asked, sent),
         }
     }
 
@@ -150,6 +274,7 @@ impl<T: Drop> LaneTable<T> {
         requires { at < length self.old }
         ensures { CommitsAt self.old at lane self.new }
     {
+        self.may_wait = may_wait_beside(self.rows.as_slice(), self.may_wait, at);
         self.rows[at].lane.commit(lane);
     }
 }
@@ -224,6 +349,7 @@ impl<T: Drop> TakingKeyed<T> for LaneTable<T> {
         ensures err { IfErr result (λ x. x ≡ item) }
         ensures same { OnErr result (self.new ≡ self.old) }
     {
+        let may_wait = may_wait_behind(self.rows.as_slice(), self.may_wait);
         match self.rows.reserve(1) {
             Ok(()) => {}
             Err(_) => return Err(item),
@@ -234,6 +360,7 @@ impl<T: Drop> TakingKeyed<T> for LaneTable<T> {
         }
         match Lane::begin(alloc, ops, stages, item) {
             Ok(lane) => {
+                self.may_wait = may_wait;
                 self.rows.push_reserved(KeyedLane { key, lane });
                 Ok(())
             }
@@ -260,7 +387,10 @@ impl<T: Drop> TakingKeyed<T> for LaneTable<T> {
         ensures same { OnErr result (self.new ≡ self.old) }
     {
         match self.keys.lane_of(key) {
-            Some(at) => self.rows[at].lane.take_item(alloc, ops, item),
+            Some(at) => {
+                self.may_wait = MayWait::At(at);
+                self.rows[at].lane.take_item(alloc, ops, item)
+            }
             None => self.open(alloc, ops, stages, key, item),
         }
     }
