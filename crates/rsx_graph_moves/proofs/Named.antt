@@ -1,13 +1,17 @@
 -- The moves of a hub, by their names.
 use Rattle.rsx_sources.specs.declared.machine.Machine.{Ghosts as Machine}
 use Rattle.rsx_rooted.specs.declared.nodes.Nodes.{Ghosts as Nodes}
-use Rattle.std.proofs.Common.{◌≡◌, ℕ, ◌<◌, Bool, true, false, ◌&&◌, nat_eq, if◌then◌else◌, List, [], ◌∷◌, length, slice_get, Option, Some, None, is_some, is_none, zero, suc, refl, ap, sym, ◌∙◌, arith}
-use Rattle.rsx_graph_state.specs.Prelude.{accepts_at, accepts_in, feed_enabled, has_feed, is_out, sends, sends_where, works, works_where, Rows, feed_of, HubState, can_accept, can_feed, can_feed_at, can_feed_of, Subscription}
+use Rattle.std.proofs.Common.{◌≡◌, ℕ, ◌<◌, Bool, true, false, ◌&&◌, nat_eq, if◌then◌else◌, List, [], ◌∷◌, length, slice_get, Option, Some, None, option_map, is_some, is_none, zero, suc, refl, ap, sym, ◌∙◌, arith}
+use Rattle.rsx_graph_state.specs.Prelude.{accepts_at, accepts_in, feed_enabled, has_feed, is_out, sends, sends_where, works, works_where, Rows, feed_of, place_of, HubState, waiting, all_have_room, can_accept, can_feed, can_feed_at, can_feed_of, Subscription}
 use Rattle.rsx_subscriber.specs.Prelude.{route, IsQuietInside, inside_enabled, IsNumbered, delivery, inside_node, node_move, node_of, tree_of, IsMadeAnswer, NodeMove, Ask as NodeAsk, Send as NodeSend, Pick as NodePick, Row as NodeRow}
 use Rattle.rsx_pipe.specs.Part as Part
 use Rattle.rsx_graph_state.specs.declared.feed.Feed.{Feed}
 use Rattle.rsx_subscriber.proofs.Names.{name_move, name_node, name_tree, numbered_inside}
-use Rattle.rsx_sources.specs.Prelude.{Meaning, HubId, Move, Ask, Send, Take, Pick, Row, Accept, NodeId, SubId, Sub, Feed as FeedOf, Signal}
+use Rattle.rsx_sources.specs.Prelude.{Meaning, HubId, Move, Ask, Send, Take, Pick, Row, Accept, NodeId, SubId, Sub, Feed as FeedOf, Signal, front_of}
+use Rattle.rsx_sources.specs.declared.machine.Front.{Front}
+use Rattle.rsx_graph_state.proofs.Calls.{accepts_there}
+use Rattle.rsx_graph_state.proofs.Places.{unfed_there}
+use Rattle.rsx_graph_state.proofs.Ready.{none_ready}
 use Rattle.rsx_graph_moves.specs.Moves.{enabled_in_tree, feed_move, feed_move_enabled, is_enabled, move_in, name_in}
 use Rattle.rsx_graph_moves.specs.Pumped.{IsHubQuiet}
 
@@ -83,6 +87,12 @@ unfed_quiet mc m g h unfed rest = record { accept = rest; feed = λ step small. 
     none : (b : Bool) → feed_of g.feeds h ≡ None → b && is_some (feed_of g.feeds h) ≡ false
     none true e = ap is_some e
     none false e = refl
+
+-- nothing waits in front of its inbox
+pub empty_quiet : {M T : Type 0} (mc : Machine M T) (m : Meaning T) (g : Rows M T) (h : ℕ) (hub : HubState T) (o : Option Front) → slice_get g.hubs h ≡ Some hub → place_of g.feeds h ≡ None → o ≡ option_map front_of (waiting hub) → o ≡ None → IsHubQuiet mc m g h
+empty_quiet mc m g h hub o there place front none =
+    let unfed = unfed_there g.feeds h place in
+    unfed_quiet mc m g h unfed (accepts_there mc h g.hubs hub g.feeds g.feeds g.subs g.subs false there refl refl unfed (sym (none_ready (waiting hub) (all_have_room mc h g.feeds g.subs) (sym front ∙ none))))
 
 -- ---- a hub with a feed
 

@@ -1,69 +1,77 @@
-//! Which subscriptions are known to be idle.
+//! Which subscriptions are known to be idle, and which of them are known not to read a hub.
 
 ghost use Rattle.std.specs.Prelude.{◌≡◌, ℕ, ◌<◌, ◌≤◌, ◌⊎◌, ◌↔◌, IsTrue};
 
-use rsx_types::{Move, SubId, Tree};
+use rsx_graph_state::{MOST_HUBS, MOST_IN_SET, SubscriptionSet};
+use rsx_types::{HubId, Move, SubId, Tree};
 
-/// Numbers from this one on are in no [`IdleSet`].
-pub const MOST_IDLE: u32 = 256;
-
-/// A set of numbers of subscriptions, each below [`MOST_IDLE`]. It takes no memory, and nothing is refused.
+/// The subscriptions that are known to be idle, each with a number below
+/// [`MOST_IN_SET`](rsx_graph_state::MOST_IN_SET), and what is known of them: which of them don't read a hub, as was found when they
+/// were looked at. It takes no memory, and nothing is refused.
 #[derive(Debug, Drop)]
 pub struct IdleSet {
-    /// A bit for each number, 64 of them in each word.
-    words: [u64; 4],
+    /// The idle ones.
+    pub(crate) idle: SubscriptionSet,
+    /// Those that have moved since they were looked at, so that nothing is known of them.
+    moved: SubscriptionSet,
+    /// For each hub those of which it was found that no node reads it.
+    apart: [SubscriptionSet; MOST_HUBS],
+    /// Of how many hubs, from the first on, something was found.
+    known: u32,
 }
 
 impl IdleSet {
-    ghost use Rattle.rsx_graph_moves.specs.IdleSet.{IsEmpty, IsIn, IsStirred};
+    ghost use Rattle.rsx_graph_moves.specs.IdleSet.{IsApart, IsEmpty, IsIn, IsLess, IsStirred};
+    ghost use Rattle.rsx_graph_state.specs.SubscriptionSet.{IsIn as IsInSet};
 
     /// The set with nothing in it.
     pub fn new() -> IdleSet
         ensures { IsEmpty result }
     {
-        IdleSet { words: [0; 4] }
+        IdleSet {
+            idle: SubscriptionSet::new(),
+            moved: SubscriptionSet::new(),
+            apart: [SubscriptionSet::new(); MOST_HUBS],
+            known: 0,
+        }
     }
 
     /// Whether a subscription's number is in the set.
     pub fn contains(&self, sub: SubId) -> bool
         ensures { IsTrue result ↔ IsIn self.now sub.0 }
     {
-        if sub.0 >= MOST_IDLE {
-            return false;
-        }
-        let word = self.words[(sub.0 / 64) as usize];
-        (word >> (sub.0 % 64)) & 1 == 1
+        self.idle.contains(sub)
     }
 
-    /// Puts a subscription's number into the set, if it is below [`MOST_IDLE`].
+    /// Puts the number of a subscription that has moved into the set, if it is below [`MOST_IN_SET`](rsx_graph_state::MOST_IN_SET). What
+    /// was known of it is forgotten.
     pub fn insert(&mut self, sub: SubId)
-        ensures { (i : ℕ) → IsIn self.new i ↔ (IsIn self.old i ⊎ ((i ≡ sub.0) × (i < MOST_IDLE))) }
+        ensures idle { (i : ℕ) → IsIn self.new i ↔ (IsIn self.old i ⊎ ((i ≡ sub.0) × (i < MOST_IN_SET))) }
+        ensures apart { (h i : ℕ) → IsApart self.new h i → IsApart self.old h i × (i ≡ sub.0 → ⊥) }
     {
-        if sub.0 < MOST_IDLE {
-            self.words[(sub.0 / 64) as usize] |= 1 << (sub.0 % 64);
-        }
+        self.idle.insert(sub);
+        self.moved.insert(sub);
     }
 
     /// Takes a subscription's number out of the set.
     pub fn remove(&mut self, sub: SubId)
-        ensures { (i : ℕ) → IsIn self.new i ↔ (IsIn self.old i × (i ≡ sub.0 → ⊥)) }
+        ensures { IsLess (λ i. i ≡ sub.0) self.old self.new }
     {
-        if sub.0 < MOST_IDLE {
-            self.words[(sub.0 / 64) as usize] &= !(1 << (sub.0 % 64));
-        }
+        self.idle.remove(sub);
     }
 
     /// Takes all numbers out of the set.
     pub fn clear(&mut self)
-        ensures { IsEmpty self.new }
+        ensures empty { IsEmpty self.new }
+        ensures apart { (h i : ℕ) → IsApart self.new h i → IsApart self.old h i }
     {
-        self.words = [0; 4];
+        self.idle.clear();
     }
 
     /// Takes the numbers of those subscriptions out of the set that a move may wake: the one in whose tree it is, or all of them
     /// where it is a move of a hub or of a hub's feed.
     pub fn wake(&mut self, step: Move)
-        ensures { (i : ℕ) → IsIn self.new i ↔ (IsIn self.old i × (IsStirred step i → ⊥)) }
+        ensures { IsLess (IsStirred step) self.old self.new }
     {
         match step {
             Move::Ask(Tree::Sub(sub), _)
@@ -86,15 +94,86 @@ impl IdleSet {
         ensures outside { IsIn self.now result → ⊥ }
         ensures first { (i : ℕ) → from ≤ i → i < result → IsIn self.now i }
     {
-        let mut at = from;
-        'words: while at < MOST_IDLE {
-            let word = self.words[(at / 64) as usize];
-            let rest = !word >> (at % 64);
-            if rest != 0 {
-                return at + rest.trailing_zeros();
-            }
-            at = (at / 64 + 1) * 64;
+        self.idle.next_outside(from)
+    }
+
+    /// The idle ones that are known not to read the hub.
+    pub(crate) fn apart_from(&self, hub: HubId) -> SubscriptionSet
+        ensures { (i : ℕ) → IsInSet result i → IsIn self.now i × IsApart self.now hub.0 i }
+    {
+        let at = hub.0 as usize;
+        if at >= MOST_HUBS {
+            return SubscriptionSet::new();
         }
-        at
+        if hub.0 >= self.known {
+            return SubscriptionSet::new();
+        }
+        let found = &self.apart[at];
+        self.idle.common(found).without(&self.moved)
+    }
+
+    /// Notes that an idle subscription doesn't read the hub.
+    pub(crate) fn set_apart(&mut self, hub: HubId, sub: SubId)
+        ensures idle { (i : ℕ) → IsIn self.new i ↔ IsIn self.old i }
+        ensures apart { (h i : ℕ) → IsApart self.new h i → IsApart self.old h i ⊎ ((h ≡ hub.0) × (i ≡ sub.0)) }
+    {
+        let at = hub.0 as usize;
+        if at < MOST_HUBS {
+            let found = &mut self.apart[at];
+            found.insert(sub);
+        }
+    }
+
+    /// Leaves those alone in the set that are in another one.
+    pub(crate) fn keep(&mut self, those: &SubscriptionSet)
+        ensures idle { (i : ℕ) → IsIn self.new i ↔ (IsIn self.old i × IsInSet those.now i) }
+        ensures apart { (h i : ℕ) → IsApart self.new h i → IsApart self.old h i }
+    {
+        self.idle = self.idle.common(those);
+    }
+
+    /// Forgets what was found of those that have moved since, so that what is found of them now is kept; and has a place for what is found
+    /// of the hub.
+    pub(crate) fn forget(&mut self, hub: HubId)
+        ensures idle { (i : ℕ) → IsIn self.new i ↔ IsIn self.old i }
+        ensures apart { (h i : ℕ) → IsApart self.new h i → IsApart self.old h i }
+    {
+        self.forget_moved();
+        self.begin(hub);
+    }
+
+    /// Forgets what was found of those that have moved since.
+    fn forget_moved(&mut self)
+        ensures idle { (i : ℕ) → IsIn self.new i ↔ IsIn self.old i }
+        ensures apart { (h i : ℕ) → IsApart self.new h i → IsApart self.old h i }
+    {
+        // The first that moved stands outside of all the others.
+        if self.moved.others().next_outside(0) >= MOST_IN_SET {
+            return;
+        }
+        let moved = self.moved;
+        let count = self.known.min(MOST_HUBS as u32);
+        for at in 0..count {
+            let found = &mut self.apart[at as usize];
+            *found = found.without(&moved);
+        }
+        self.known = count;
+        self.moved.clear();
+    }
+
+    /// Has a place for what is found of a hub.
+    fn begin(&mut self, hub: HubId)
+        ensures idle { (i : ℕ) → IsIn self.new i ↔ IsIn self.old i }
+        ensures apart { (h i : ℕ) → IsApart self.new h i → IsApart self.old h i }
+    {
+        'hubs: while self.known <= hub.0 {
+            let at = self.known as usize;
+            if at >= MOST_HUBS {
+                return;
+            }
+            let found = &mut self.apart[at];
+            found.clear();
+            self.known += 1;
+        }
     }
 }

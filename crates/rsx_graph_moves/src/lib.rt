@@ -7,7 +7,7 @@
 //! The moves of subscriptions that stand in a row and are named by their numbers.
 //!
 //! - [`trees`]: [`make_in_tree`] and [`take`], one move of a subscription.
-//! - [`idle_set`]: [`IdleSet`], which subscriptions are known to be idle.
+//! - [`idle_set`]: [`IdleSet`], which subscriptions are known to be idle, and which hubs they are known not to read.
 //! - [`subscriptions`]: [`drive`], moves of subscriptions until none is enabled.
 //!
 //! # Hubs, feeds and subscriptions
@@ -30,8 +30,8 @@
 //! move, made many times), `Pumped` (many moves, one after the other) and `Served` (what was got where no move is enabled);
 //! `Waiting` (which node of a tree waits for which hub), `Idle` (an idle tree of which more is asked than it sent: some node of it
 //! waits for a hub), `Hubs` (why nothing comes from a hub), `Explained` (what a subscriber waits for), `FeedWaits` (what the feed of a
-//! hub waits for), `IdleSet` (which numbers are in a set), `Resting` (no move is enabled of the subscriptions in it) and `Pictures` (what
-//! the nodes of a tree do).
+//! hub waits for), `IdleSet` (which numbers are in the set, and what is known of them), `Resting` (no move is enabled of the
+//! subscriptions in it, and they don't read the hubs of which that is known) and `Pictures` (what the nodes of a tree do).
 
 pub mod explaining;
 pub mod feed_waits;
@@ -50,7 +50,7 @@ mod waking;
 
 pub use explaining::explain;
 pub use feed_waits::explain_feed;
-pub use idle_set::{IdleSet, MOST_IDLE};
+pub use idle_set::IdleSet;
 pub use law::{feeds_keep_their_hubs, idle_means_delivered};
 pub use leaf::{WaitingLeaf, waiting_leaf};
 pub use many::make_many;

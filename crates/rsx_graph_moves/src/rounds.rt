@@ -50,13 +50,23 @@ pub fn pump<N: Nodes<Item = O::Item>, O: Ops>(
     ensures idle { AreIdle N.Machine (O.meaning ops.now) idle.new subscriptions.new.items }
 {
     let mut left = budget;
+    let mut signals = Vec::new(alloc);
     'rounds: loop {
         let rested = match drive(alloc, ops, subscriptions, idle, left, out) {
             Ok(Driven::Idle(rested)) => rested,
             Ok(Driven::Budget) => return Ok(Pumped::Budget),
             Err(why) => return Err(why),
         };
-        left = match serve_all(alloc, ops, hubs, feeds, subscriptions, idle, rested) {
+        left = match serve_all(
+            alloc,
+            ops,
+            hubs,
+            feeds,
+            subscriptions,
+            idle,
+            &mut signals,
+            rested,
+        ) {
             Ok(Driven::Idle(behind)) => behind,
             Ok(Driven::Budget) => return Ok(Pumped::Budget),
             Err(why) => return Err(why),

@@ -2,7 +2,7 @@
 
 ghost use Rattle.std.specs.Prelude.{◌≡◌, ℕ, ◌<◌, ◌^◌, length, false, OnErr};
 ghost use Rattle.rsx_graph_moves.specs.IdleSet.{IsIn};
-ghost use Rattle.rsx_graph_moves.specs.declared.idle_set.TheConstants.{MOST_IDLE};
+ghost use Rattle.rsx_graph_state.specs.declared.subscription_set.TheConstants.{MOST_IN_SET};
 ghost use Rattle.rsx_graph_moves.specs.Resting.{AreIdle};
 ghost use Rattle.rsx_subscriber.specs.Delivered.{IsFull};
 ghost use Rattle.rsx_graph_state.specs.Subscriptions.{pump_allocates};
@@ -41,7 +41,7 @@ pub fn drive<N: Nodes<Item = O::Item>, O: Ops>(
     ensures idle { AreIdle N.Machine (O.meaning ops.now) idle.new subscriptions.new.items }
 
     // Where none of their moves is enabled, it is known of each of them.
-    ensures known { (left : ℕ) → result ≡ Ok (Driven.Idle left) → (i : ℕ) → i < length subscriptions.new.items → i < MOST_IDLE → IsIn idle.new i }
+    ensures known { (left : ℕ) → result ≡ Ok (Driven.Idle left) → (i : ℕ) → i < length subscriptions.new.items → i < MOST_IN_SET → IsIn idle.new i }
 {
     let mut left = budget;
     let count = subscriptions.len() as u32;
@@ -75,7 +75,7 @@ fn drive_one<N: Nodes<Item = O::Item>, O: Ops>(
     ensures memory { pump_allocates N.Machine (O.allocates ops.now) subscriptions.old.items ≡ false → OnErr result (IsFull out.new) }
     ensures idle { AreIdle N.Machine (O.meaning ops.now) idle.new subscriptions.new.items }
     ensures kept { (i : ℕ) → IsIn idle.old i → IsIn idle.new i }
-    ensures known { (left : ℕ) → result ≡ Ok (Driven.Idle left) → sub.0 < MOST_IDLE → IsIn idle.new sub.0 }
+    ensures known { (left : ℕ) → result ≡ Ok (Driven.Idle left) → sub.0 < MOST_IN_SET → IsIn idle.new sub.0 }
 {
     let subscription = &mut subscriptions[sub.0 as usize];
     match subscription.pump(alloc, ops, sub, budget, out) {

@@ -3,28 +3,47 @@
 ghost use Rattle.std.specs.Prelude.{◌≡◌, ℕ, ◌<◌, Some, false, length, slice_get};
 ghost use Rattle.rsx_pipe.specs.Published.{readers};
 ghost use Rattle.rsx_subscriber.specs.declared.subscription.Subscription.{Subscription as SubscriptionOf};
-ghost use Rattle.rsx_graph_moves.specs.IdleSet.{IsIn};
-ghost use Rattle.rsx_graph_moves.specs.Resting.{NoneReads};
+ghost use Rattle.rsx_types.specs.Meaning.{Meaning};
+ghost use Rattle.rsx_graph_moves.specs.Resting.{AreIdle};
 
-use crate::{IdleSet, MOST_IDLE};
+use crate::IdleSet;
+use rsx_graph_state::MOST_IN_SET;
 use rsx_pipe::Nodes;
 use rsx_subscriber::Subscription;
 use rsx_types::{HubId, SubId};
 
-/// Takes those subscriptions out of `idle` of which some node reads the hub, and may take something in of it.
-pub(crate) fn wake_readers<N: Nodes<Item = T>, T: Drop>(
+/// Looks at each idle subscription of which it isn't known whether some node of it reads the hub, and notes those of which none does.
+/// What is found is known until the subscription moves.
+pub(crate) fn look_for_readers<N: Nodes<Item = T>, T: Drop>(
     subscriptions: &Vec<Subscription<N, T>>,
     idle: &mut IdleSet,
     hub: HubId,
 )
-    ensures fewer { (i : ℕ) → IsIn idle.new i → IsIn idle.old i }
-    ensures unread { NoneReads N.Machine hub.0 idle.new subscriptions.now.items }
+    ensures { (m : Meaning T) → AreIdle N.Machine m idle.old subscriptions.now.items → AreIdle N.Machine m idle.new subscriptions.now.items }
 {
-    let count = subscriptions.len().min(MOST_IDLE as usize) as u32;
-    for at in 0..count {
-        if reads(subscriptions, SubId(at), hub) {
-            idle.remove(SubId(at));
-        }
+    idle.forget(hub);
+    let unknown = idle.idle.without(&idle.apart_from(hub));
+    let others = unknown.others();
+    let count = subscriptions.len().min(MOST_IN_SET as usize) as u32;
+    let mut at = others.next_outside(0);
+    'looks: while at < count {
+        look_at(subscriptions, idle, SubId(at), hub);
+        at = others.next_outside(at + 1);
+    }
+}
+
+/// Looks at one of them.
+fn look_at<N: Nodes<Item = T>, T: Drop>(
+    subscriptions: &Vec<Subscription<N, T>>,
+    idle: &mut IdleSet,
+    sub: SubId,
+    hub: HubId,
+)
+    requires { sub.0 < length subscriptions.now.items }
+    ensures { (m : Meaning T) → AreIdle N.Machine m idle.old subscriptions.now.items → AreIdle N.Machine m idle.new subscriptions.now.items }
+{
+    if !reads(subscriptions, sub, hub) {
+        idle.set_apart(hub, sub);
     }
 }
 

@@ -13,5 +13,7 @@ pub mod Places
 pub mod Publishes
 pub mod Ready
 pub mod Sends
+pub mod Skipping
+pub mod SubscriptionSets
 pub mod Taken
 pub mod Values

@@ -16,4 +16,5 @@ pub mod Pumped
 pub mod Sending
 pub mod Served
 pub mod Stands
+pub mod SubscriptionSet
 pub mod Subscriptions

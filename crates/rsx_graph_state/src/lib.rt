@@ -14,6 +14,10 @@
 //! A hub has one inbox, and each node that reads it has a queue of its own. An item is taken in only where all these nodes have
 //! room for it, so a slow one holds the others back and none loses an item. An ending needs no room.
 //!
+//! - [`subscription_set`]: [`SubscriptionSet`], some of the first subscriptions, by their numbers.
+//! - [`skipped`]: [`Skipped`], the subscriptions of which it is known that they don't read a hub. What is done for the readers of the
+//!   hub doesn't look at them.
+//!
 //! # Steps and answers
 //!
 //! What the calls of a graph answer, and what its subscriptions stand for, one beside the other.
@@ -47,9 +51,11 @@ pub mod law;
 pub mod publishing;
 pub mod refusal;
 pub mod sending;
+pub mod skipped;
 pub mod step;
+pub mod subscription_set;
 
-pub use accepting::accept;
+pub use accepting::{accept, accept_unfed};
 pub use feed::{Feed, HUB_REGION};
 pub use feed_moves::make_in_feed;
 pub use feeds::place_of;
@@ -57,7 +63,9 @@ pub use law::headline;
 pub use publishing::can_accept;
 pub use refusal::Refusal;
 pub use sending::{can_feed, send_to_hub};
+pub use skipped::Skipped;
 pub use step::{Answer, Pumped};
+pub use subscription_set::{MOST_IN_SET, SubscriptionSet};
 
 /// The most subscriptions of a graph.
 pub const MOST_SUBSCRIPTIONS: usize = 256;

@@ -1,13 +1,15 @@
 //! Taking a signal in at a hub, and handing it to all nodes that read the hub.
 
-ghost use Rattle.std.specs.Prelude.{◌≡◌, ◌-◌, ◌<◌, min, true, Some, IfOk, IfErr, OnOk, OnErr, vec_len, vec_capacity};
+ghost use Rattle.std.specs.Prelude.{◌≡◌, ◌-◌, ◌<◌, min, true, false, [], Some, IfSome, IfNone, IfErr, OnOk, OnErr, IfOk, vec_len, vec_capacity};
 ghost use Rattle.rsx_types.specs.declared.signal.Signal.{Signal};
 ghost use Rattle.rsx_sources.specs.Steps.{IsNotMade};
 ghost use Rattle.rsx_hub.specs.Hub.{accepted, waiting};
 ghost use Rattle.rsx_tree.specs.Handed.{IsHandedOut, times};
 ghost use Rattle.rsx_graph_state.specs.Publishing as spec;
 ghost use Rattle.rsx_graph_state.specs.Publishing.{all_readers, feed_readers, readers, AllFeedsHanded, AllHanded, IsAccepted};
+ghost use Rattle.rsx_graph_state.specs.SubscriptionSet.{NoneReads};
 
+use crate::Skipped;
 use crate::feed::Feed;
 use rsx_hub::Hub;
 use rsx_pipe::Nodes;
@@ -18,6 +20,9 @@ use std::alloc::Global;
 
 /// Takes the signal in that waits in front of the inbox of the hub with this number, and hands it to each node of these feeds and
 /// subscriptions that reads the hub. An item is handed to all or to none: one node without room keeps it in the inbox.
+///
+/// It looks at no subscription that is skipped. The list, in which the signal stands once for each of these nodes in between, is
+/// empty before and after; used again, it takes no memory.
 ///
 /// # Errors
 /// Nothing has changed:
@@ -31,27 +36,98 @@ pub fn accept<N: Nodes<Item = O::Item>, O: Ops>(
     number: u32,
     feeds: &mut [Feed<N>],
     subscriptions: &mut [Subscription<N, O::Item>],
+    skipped: &Skipped,
+    signals: &mut Vec<Signal<O::Item>>,
 ) -> Result<(), NotMade>
+    requires unread { NoneReads N.Machine number skipped.now subscriptions.old }
+    requires empty { signals.old.items ≡ [] }
     ensures ok { OnOk result (IsAccepted N.Machine number hub.old hub.new feeds.old feeds.new subscriptions.old subscriptions.new) }
     ensures enabled { OnOk result (spec.can_accept N.Machine number hub.old feeds.old subscriptions.old ≡ true) }
     ensures err { IfErr result (IsNotMade (spec.can_accept N.Machine number hub.old feeds.old subscriptions.old)) }
     ensures same { OnErr result ((hub.new ≡ hub.old) × (feeds.new ≡ feeds.old) × (subscriptions.new ≡ subscriptions.old)) }
+    ensures empty { signals.new.items ≡ [] }
 {
     let number = u64::from(number);
-    if !can_accept(number, hub, feeds, subscriptions) {
+    let Some(readers) = ready_readers(number, hub, feeds, subscriptions, skipped) else {
         return Err(NotMade::NotEnabled);
-    }
-    let readers = all_readers_up_to(number, feeds, subscriptions, u32::MAX);
+    };
     if readers == u32::MAX {
         return Err(NotMade::NoMemory);
     }
-    match take_in(alloc, ops, hub, readers) {
-        Ok(mut signals) => {
-            hand_to_all(number, feeds, subscriptions, &mut signals);
+    match take_in(alloc, ops, hub, readers, signals) {
+        Ok(()) => {
+            hand_to_all(number, feeds, subscriptions, skipped, signals);
             Ok(())
         }
         Err(_) => Err(NotMade::NoMemory),
     }
+}
+
+/// How many nodes read the hub with this number, but at most `u32::MAX`, where it can take a signal in ([`can_accept`]). None where it
+/// can't.
+fn ready_readers<N: Nodes<Item = T>, T: Drop>(
+    number: u64,
+    hub: &Hub<T>,
+    feeds: &[Feed<N>],
+    subscriptions: &[Subscription<N, T>],
+    skipped: &Skipped,
+) -> Option<u32>
+    requires unread { NoneReads N.Machine number skipped.now subscriptions.now }
+    ensures some { IfSome result (λ n. (spec.can_accept N.Machine number hub.now feeds.now subscriptions.now ≡ true) × (n ≡ min (all_readers N.Machine number feeds.now subscriptions.now) u32.MAX)) }
+    ensures none { IfNone result (spec.can_accept N.Machine number hub.now feeds.now subscriptions.now ≡ false) }
+{
+    match hub.front() {
+        None => None,
+        Some(Front::Item) => all_with_room(number, feeds, subscriptions, skipped, u32::MAX),
+        Some(Front::Completion) => Some(all_readers_up_to(number, feeds, subscriptions, u32::MAX)),
+        Some(Front::Failure(_)) => Some(all_readers_up_to(number, feeds, subscriptions, u32::MAX)),
+    }
+}
+
+/// How many nodes read the hub, but at most `most`, where all of them have room for an item of it. None where one has none.
+fn all_with_room<N: Nodes<Item = T>, T: Drop>(
+    number: u64,
+    feeds: &[Feed<N>],
+    subscriptions: &[Subscription<N, T>],
+    skipped: &Skipped,
+    most: u32,
+) -> Option<u32>
+    requires unread { NoneReads N.Machine number skipped.now subscriptions.now }
+    ensures some { IfSome result (λ n. (spec.all_have_room N.Machine number feeds.now subscriptions.now ≡ true) × (n ≡ min (all_readers N.Machine number feeds.now subscriptions.now) most)) }
+    ensures none { IfNone result (spec.all_have_room N.Machine number feeds.now subscriptions.now ≡ false) }
+{
+    if !feeds_have_room(number, feeds) {
+        return None;
+    }
+    let found = feed_readers_up_to(number, feeds, most);
+    match with_room(number, subscriptions, skipped, most - found) {
+        Some(more) => Some(found + more),
+        None => None,
+    }
+}
+
+/// The same of the nodes of these subscriptions alone.
+fn with_room<N: Nodes<Item = T>, T: Drop>(
+    number: u64,
+    subscriptions: &[Subscription<N, T>],
+    skipped: &Skipped,
+    most: u32,
+) -> Option<u32>
+    requires unread { NoneReads N.Machine number skipped.now subscriptions.now }
+    ensures some { IfSome result (λ n. (spec.have_room N.Machine number subscriptions.now ≡ true) × (n ≡ min (readers N.Machine number subscriptions.now) most)) }
+    ensures none { IfNone result (spec.have_room N.Machine number subscriptions.now ≡ false) }
+{
+    let mut found = 0;
+    let mut at = skipped.next(0);
+    'walk: while at < subscriptions.len() {
+        let looked_at = &subscriptions[at];
+        if !looked_at.has_room_for(number) {
+            return None;
+        }
+        found += looked_at.readers_up_to(number, most - found);
+        at = skipped.next(at + 1);
+    }
+    Some(found)
 }
 
 /// Whether the hub with this number can take a signal in: one waits in front of its inbox, and for an item each node of these feeds
@@ -149,45 +225,72 @@ fn readers_up_to<N: Nodes<Item = T>, T: Drop>(
     found
 }
 
-/// Takes the signal in that waits in front of the hub's inbox, and answers it once for each of so many nodes. All copies are made
-/// before it is taken in.
+/// Takes the signal in that waits in front of the hub's inbox, and puts it into the empty list once for each of so many nodes. All
+/// copies are made before it is taken in. After an error the list is empty again.
 fn take_in<O: Ops>(
     alloc: Global,
     ops: &O,
     hub: &mut Hub<O::Item>,
     readers: u32,
-) -> Result<Vec<Signal<O::Item>>, NoMemory>
-    ensures signals { IfOk result (λ v. (s : Signal O.Item) → waiting hub.old ≡ Some s → v.items ≡ times readers s) }
+    signals: &mut Vec<Signal<O::Item>>,
+) -> Result<(), NoMemory>
+    requires { signals.old.items ≡ [] }
+    ensures signals { OnOk result ((s : Signal O.Item) → waiting hub.old ≡ Some s → signals.new.items ≡ times readers s) }
+    ensures taken { OnOk result ((s : Signal O.Item) → waiting hub.old ≡ Some s → hub.new ≡ accepted hub.old (Some s)) }
+    ensures same { OnErr result ((hub.new ≡ hub.old) × (signals.new.items ≡ [])) }
+{
+    match put_and_take_in(alloc, ops, hub, readers, signals) {
+        Ok(()) => Ok(()),
+        Err(why) => {
+            signals.clear();
+            Err(why)
+        }
+    }
+}
+
+/// The same, but for what stands in the list after an error.
+fn put_and_take_in<O: Ops>(
+    alloc: Global,
+    ops: &O,
+    hub: &mut Hub<O::Item>,
+    readers: u32,
+    signals: &mut Vec<Signal<O::Item>>,
+) -> Result<(), NoMemory>
+    requires { signals.old.items ≡ [] }
+    ensures signals { OnOk result ((s : Signal O.Item) → waiting hub.old ≡ Some s → signals.new.items ≡ times readers s) }
     ensures taken { OnOk result ((s : Signal O.Item) → waiting hub.old ≡ Some s → hub.new ≡ accepted hub.old (Some s)) }
     ensures same { OnErr result (hub.new ≡ hub.old) }
 {
-    let mut signals = copies(alloc, ops, hub, readers)?;
+    copies(alloc, ops, hub, readers, signals)?;
     if let Some(signal) = hub.accept(alloc, ops)? {
         if readers > 0 {
             signals.push_reserved(signal);
         }
     }
-    Ok(signals)
+    Ok(())
 }
 
-/// The signal in front of the hub's inbox once for each of so many nodes but one, which gets the signal itself, with room for that.
+/// Puts the signal in front of the hub's inbox into the empty list once for each of so many nodes but one, which gets the signal
+/// itself, with room for that.
 fn copies<O: Ops>(
     alloc: Global,
     ops: &O,
     hub: &Hub<O::Item>,
     readers: u32,
-) -> Result<Vec<Signal<O::Item>>, NoMemory>
-    ensures signals { IfOk result (λ v. (s : Signal O.Item) → waiting hub.now ≡ Some s → v.items ≡ times (readers - 1) s) }
-    ensures room { IfOk result (λ v. 0 < readers → vec_len v < vec_capacity v) }
+    signals: &mut Vec<Signal<O::Item>>,
+) -> Result<(), NoMemory>
+    requires { signals.old.items ≡ [] }
+    ensures signals { OnOk result ((s : Signal O.Item) → waiting hub.now ≡ Some s → signals.new.items ≡ times (readers - 1) s) }
+    ensures room { OnOk result (0 < readers → vec_len signals.new < vec_capacity signals.new) }
 {
-    let mut signals = Vec::with_capacity(alloc, readers as usize)?;
+    signals.reserve(readers as usize)?;
     for made in 0..readers.saturating_sub(1) {
         let Some(signal) = copy_of_front(alloc, ops, hub)? else {
-            return Ok(signals);
+            return Ok(());
         };
         signals.push_reserved(signal);
     }
-    Ok(signals)
+    Ok(())
 }
 
 /// A copy of the signal in front of the hub's inbox, if one waits.
@@ -215,14 +318,16 @@ pub(crate) fn hand_to_all<N: Nodes<Item = T>, T: Drop>(
     number: u64,
     feeds: &mut [Feed<N>],
     subscriptions: &mut [Subscription<N, T>],
+    skipped: &Skipped,
     signals: &mut Vec<Signal<T>>,
 )
+    requires unread { NoneReads N.Machine number skipped.now subscriptions.old }
     ensures { IsHandedOut (all_readers N.Machine number feeds.old subscriptions.old) (spec.all_have_room N.Machine number feeds.old subscriptions.old)
         signals.old.items signals.new.items
         (λ s. AllFeedsHanded N.Machine number s feeds.old feeds.new × AllHanded N.Machine number s subscriptions.old subscriptions.new) }
 {
     hand_to_feeds(number, feeds, signals);
-    hand(number, subscriptions, signals);
+    hand(number, subscriptions, skipped, signals);
 }
 
 /// The same for the nodes of these feeds alone.
@@ -243,12 +348,17 @@ fn hand_to_feeds<N: Nodes<Item = T>, T: Drop>(
 fn hand<N: Nodes<Item = T>, T: Drop>(
     number: u64,
     subscriptions: &mut [Subscription<N, T>],
+    skipped: &Skipped,
     signals: &mut Vec<Signal<T>>,
 )
+    requires unread { NoneReads N.Machine number skipped.now subscriptions.old }
     ensures { IsHandedOut (readers N.Machine number subscriptions.old) (spec.have_room N.Machine number subscriptions.old) signals.old.items signals.new.items
         (λ s. AllHanded N.Machine number s subscriptions.old subscriptions.new) }
 {
-    for subscription in subscriptions.iter_mut() {
+    let mut to = skipped.next(0);
+    'walk: while to < subscriptions.len() {
+        let subscription = &mut subscriptions[to];
         subscription.hand(number, signals);
+        to = skipped.next(to + 1);
     }
 }

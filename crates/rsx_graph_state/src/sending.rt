@@ -8,6 +8,7 @@ ghost use Rattle.rsx_tree.specs.Handed.{times};
 ghost use Rattle.rsx_graph_state.specs.Sending as spec;
 ghost use Rattle.rsx_graph_state.specs.Sending.{IsFed, IsTakenOut};
 
+use crate::Skipped;
 use crate::feed::Feed;
 use crate::publishing::{all_have_room, all_readers_up_to, hand_to_all};
 use rsx_hub::Hub;
@@ -51,7 +52,7 @@ pub fn send_to_hub<N: Nodes<Item = O::Item>, O: Ops>(
     }
     match take_out(alloc, ops, &mut feeds[at], hub, readers) {
         Ok(mut signals) => {
-            hand_to_all(number, feeds, subscriptions, &mut signals);
+            hand_to_all(number, feeds, subscriptions, &Skipped::none(), &mut signals);
             Ok(())
         }
         Err(NoMemory) => Err(NotMade::NoMemory),

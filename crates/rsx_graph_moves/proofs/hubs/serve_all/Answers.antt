@@ -12,6 +12,7 @@ loop-at-init g c = record {
   none = λ _ i l. absurd (omega (arith, l));
   still = λ _. refl;
   idle = c.requires.idle;
+  empty = c.requires.empty;
 }
 
 pub loop-at-preserved : goal.loop-at-preserved
@@ -34,6 +35,7 @@ loop-at-preserved g c =
       none = λ e. hubs_quiet_on g.N.Machine m before after c.loop-at.at (none_made g.N.Machine g.N.Nodes m before after p.0 (omega (arith, n, k, e)) p.2) (c.loop-at.invariant.none (omega (arith, n, k, e))) p.1.1;
       still = λ q. (c.serve.ensures.none (still_quiet g.N.Machine m first before c.loop-at.at (length c.args.hubs.now.items) (omega (arith, less, many)) (c.loop-at.invariant.still q) q)).0 ∙ c.loop-at.invariant.still q;
       idle = c.serve.ensures.idle;
+      empty = c.serve.ensures.empty;
     }
 
 pub returns-in-Ok-Budget-clause-served : goal.returns-in-Ok-Budget-clause-served

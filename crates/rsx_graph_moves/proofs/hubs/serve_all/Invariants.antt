@@ -14,4 +14,5 @@ invariant-loop-at g l = record {
   none : l.left ≡ l.fn.budget → AreHubsQuiet g.N.Machine (g.O.Ops.meaning l.ops) (rows_of l.hubs.items l.feeds.items l.subscriptions.items) l.at;
   still : AreHubsQuiet g.N.Machine (g.O.Ops.meaning l.ops) (rows_of l.fn.hubs.items l.fn.feeds.items l.fn.subscriptions.items) (length l.fn.hubs.items) → rows_of l.hubs.items l.feeds.items l.subscriptions.items ≡ rows_of l.fn.hubs.items l.fn.feeds.items l.fn.subscriptions.items;
   idle : AreIdle g.N.Machine (g.O.Ops.meaning l.ops) l.idle l.subscriptions.items;
+  empty : l.signals.items ≡ [];
 }

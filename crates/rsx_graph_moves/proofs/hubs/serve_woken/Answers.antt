@@ -3,7 +3,8 @@ use Rattle.std.specs.Option.{option_to_list}
 use Rattle.rsx_sources.specs.Prelude.{SubId, Signal}
 use Rattle.rsx_graph_state.specs.Moves.{rows_of}
 use Rattle.rsx_graph_moves.proofs.Driving.{could_first, made_one, made_still, rows_same, so_far_none, so_far_taken, untouched}
-use Rattle.rsx_graph_moves.proofs.Readers.{moved_rests, same_rests}
+use Rattle.rsx_graph_moves.proofs.Readers.{moved_rests, same_rests, woken_rests}
+use Rattle.rsx_graph_moves.specs.IdleSet.{IsIn}
 use Rattle.rsx_graph_moves.proofs.hubs.serve_woken.Goals as goal
 
 pub loop-made-init : goal.loop-made-init
@@ -13,7 +14,7 @@ loop-made-init g c = record {
   subscriptions = refl;
   so_far = so_far_none g.N.Machine g.N.Nodes (g.O.Ops.meaning c.args.ops.now) (rows_of c.args.hubs.now.items c.args.feeds.now.items c.args.subscriptions.now.items) [];
   first = λ l _. absurd (omega (arith, l));
-  rests = (c.requires.idle, c.requires.unread);
+  rests = woken_rests g.N.Machine (g.O.Ops.meaning c.args.ops.now) c.args.hub.0 c.args.idle.now c.args.subscriptions.now.items c.requires.idle c.requires.unread;
 }
 
 pub returns-in_default-clause-served : goal.returns-in_default-clause-served
@@ -58,7 +59,7 @@ loop-made-preserved g c = record {
       let m = g.O.Ops.meaning c.args.ops.now in
       let before = rows_of c.loop-made.hubs.items c.loop-made.feeds.items c.loop-made.subscriptions.items in
       let after = rows_of c.make.new.hubs.items c.make.new.feeds.items c.make.new.subscriptions.items in
-      moved_rests g.N.Machine g.N.Nodes m c.in-Some.step c.args.hub c.args.idle.now before after c.in-Ok.field-0 c.in-Some.ensures.of c.in-Ok.ensures.effect c.loop-made.invariant.rests;
+      moved_rests g.N.Machine g.N.Nodes m c.in-Some.step c.args.hub (IsIn c.args.idle.now) c.args.idle.now before after c.in-Ok.field-0 c.in-Some.ensures.of c.in-Ok.ensures.effect c.loop-made.invariant.rests;
 }
 
 pub returns-in-Some-first_move-clause-served : goal.returns-in-Some-first_move-clause-served
@@ -106,13 +107,13 @@ returns-in-Err-clause-none g c = λ q.
     absurd (could_first g.N.Machine g.N.Nodes m first before [] [] c.loop-made.made c.args.hub.0 c.loop-made.invariant.so_far c.loop-made.invariant.first (c.in-Some.ensures.own m) q)
 
 pub returns-in-Err-clause-idle : goal.returns-in-Err-clause-idle
-returns-in-Err-clause-idle g c = (same_rests g.N.Machine (g.O.Ops.meaning c.args.ops.now) c.args.hub.0 c.args.idle.now c.loop-made.subscriptions.items c.make.new.subscriptions.items c.in-Err.ensures.same.2 c.loop-made.invariant.rests).0
+returns-in-Err-clause-idle g c = (same_rests g.N.Machine (g.O.Ops.meaning c.args.ops.now) c.args.hub.0 (IsIn c.args.idle.now) c.args.idle.now c.loop-made.subscriptions.items c.make.new.subscriptions.items c.in-Err.ensures.same.2 c.loop-made.invariant.rests).1
 
 pub returns-in_default-clause-idle : goal.returns-in_default-clause-idle
-returns-in_default-clause-idle g c = c.loop-made.invariant.rests.0
+returns-in_default-clause-idle g c = c.loop-made.invariant.rests.1
 
 pub returns-in-Some-first_move-clause-idle : goal.returns-in-Some-first_move-clause-idle
-returns-in-Some-first_move-clause-idle g c = c.loop-made.invariant.rests.0
+returns-in-Some-first_move-clause-idle g c = c.loop-made.invariant.rests.1
 
 pub returns-in-None-clause-idle : goal.returns-in-None-clause-idle
-returns-in-None-clause-idle g c = c.loop-made.invariant.rests.0
+returns-in-None-clause-idle g c = c.loop-made.invariant.rests.1

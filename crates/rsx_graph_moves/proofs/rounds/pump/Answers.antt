@@ -13,6 +13,7 @@ rounds-init g c = record {
   so_far = (0, omega arith, so_far_none g.N.Machine g.N.Nodes (g.O.Ops.meaning c.args.ops.now) (rows_of c.args.hubs.now.items c.args.feeds.now.items c.args.subscriptions.now.items) c.args.out.now.signals);
   free = λ f unfed. let a = pump_allocates g.N.Machine (g.O.Ops.allocates c.args.ops.now) c.args.subscriptions.now.items in let w = signals_wait c.args.hubs.now.items in (or_left a w f, or_right a w f, unfed);
   idle = c.requires.idle;
+  empty = c.new-signals.ensures.items;
 }
 
 pub returns-in-Ok-Budget-clause-pumped : goal.returns-in-Ok-Budget-clause-pumped
@@ -88,6 +89,7 @@ rounds-preserved g c = record {
       let still = (c.serve_all.ensures.none (nothing_waits g.N.Machine m mid k.1 k.2 (length c.rounds.hubs.items))).0 in
       (ap (λ r. pump_allocates g.N.Machine a r.subs) still ∙ (p.2.alike a ∙ k.0), ap (λ g. signals_wait g.hubs) still ∙ k.1, ap (λ g. g.feeds) still ∙ k.2);
   idle = c.serve_all.ensures.idle;
+  empty = c.serve_all.ensures.empty;
 }
 
 pub returns-in-Err-clause-memory : goal.returns-in-Err-clause-memory

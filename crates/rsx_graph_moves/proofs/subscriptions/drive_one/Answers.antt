@@ -47,7 +47,7 @@ pub returns-in-Ok-Idle-clause-idle : goal.returns-in-Ok-Idle-clause-idle
 returns-in-Ok-Idle-clause-idle g c =
     let m = g.O.Ops.meaning c.args.ops.now in
     let p = rw c.in-Ok-Idle.field-0-is at c.in-Ok-Idle.ensures.pumped in
-    rested_idle g.N.Machine m c.args.idle.now c.insert.new.self c.args.subscriptions.now.items c.args.sub.0 c.pump.new.self _ c.insert.ensures p.1.1 c.requires.idle
+    rested_idle g.N.Machine m c.args.idle.now c.insert.new.self c.args.subscriptions.now.items c.args.sub.0 c.pump.new.self _ c.insert.ensures.idle c.insert.ensures.apart p.1.1 c.requires.idle
 
 pub returns-in-Ok-Budget-clause-idle : goal.returns-in-Ok-Budget-clause-idle
 returns-in-Ok-Budget-clause-idle g c = changed_idle g.N.Machine (g.O.Ops.meaning c.args.ops.now) c.args.idle.now c.args.subscriptions.now.items c.args.sub.0 c.pump.new.self c.requires.outside c.requires.idle
@@ -56,10 +56,10 @@ pub returns-in-Err-clause-idle : goal.returns-in-Err-clause-idle
 returns-in-Err-clause-idle g c = changed_idle g.N.Machine (g.O.Ops.meaning c.args.ops.now) c.args.idle.now c.args.subscriptions.now.items c.args.sub.0 c.pump.new.self c.requires.outside c.requires.idle
 
 pub returns-in-Ok-Idle-clause-kept : goal.returns-in-Ok-Idle-clause-kept
-returns-in-Ok-Idle-clause-kept g c = λ i within. (c.insert.ensures i).1 (inl within)
+returns-in-Ok-Idle-clause-kept g c = λ i within. (c.insert.ensures.idle i).1 (inl within)
 
 pub returns-in-Ok-Idle-clause-known : goal.returns-in-Ok-Idle-clause-known
-returns-in-Ok-Idle-clause-known g c = λ left e small. (c.insert.ensures c.args.sub.0).1 (inr (refl, small))
+returns-in-Ok-Idle-clause-known g c = λ left e small. (c.insert.ensures.idle c.args.sub.0).1 (inr (refl, small))
 
 pub returns-in-Ok-Budget-clause-known : goal.returns-in-Ok-Budget-clause-known
 returns-in-Ok-Budget-clause-known g c = λ left e. cc

@@ -1,15 +1,9 @@
-use Rattle.std.proofs.Common.{◌≡◌, length, take, drop}
-use Rattle.rsx_tree.specs.Handed.{IsHandedOut}
-use Rattle.rsx_graph_state.specs.Publishing as spec
-use Rattle.rsx_graph_state.specs.Publishing.{readers, AllHanded}
+use Rattle.std.proofs.Common.{◌-◌, length}
+use Rattle.rsx_graph_state.proofs.Skipping.{AreHandedTo}
 use Rattle.rsx_graph_state.proofs.publishing.hand.Given as goal
 
-abbrev pub invariant-loop-subscription : goal.invariant-loop-subscription
-invariant-loop-subscription g l =
-    let i = l.subscription-index in
-    let before = l.fn.subscriptions in record {
-      count : length l.subscriptions ≡ length before;
-      rest : drop i l.subscriptions ≡ drop i before;
-      handed : IsHandedOut (readers g.N.Machine l.number (take i before)) (spec.have_room g.N.Machine l.number (take i before)) l.fn.signals.items l.signals.items
-          (λ s. AllHanded g.N.Machine l.number s (take i before) (take i l.subscriptions));
-    }
+abbrev pub invariant-walk : goal.invariant-walk
+invariant-walk g l = AreHandedTo g.N.Machine l.number l.to l.fn.subscriptions l.subscriptions l.fn.signals.items l.signals.items
+
+abbrev pub decreases-walk : goal.decreases-walk
+decreases-walk g l = length l.initial.subscriptions - l.to

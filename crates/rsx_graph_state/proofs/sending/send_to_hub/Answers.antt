@@ -3,6 +3,7 @@ use Rattle.std.proofs.lemmas.List.{set-get_or}
 use Rattle.std.proofs.lemmas.Option.{get_or_from_slice_get, slice_get-get_or}
 use Rattle.rsx_graph_state.specs.Sending.{can_feed}
 use Rattle.rsx_graph_state.proofs.Sends.{all_fed, feed_there}
+use Rattle.rsx_graph_state.proofs.Skipping.{none_skipped}
 use Rattle.rsx_graph_state.proofs.sending.send_to_hub.Goals as goal
 
 pub returns-then-not-can_feed-clause-err : goal.returns-then-not-can_feed-clause-err
@@ -34,3 +35,6 @@ returns-in-Ok-clause-ok g c =
     let can = feed_there g.N.Machine m at f hub fs xs (can_feed g.N.Machine m f hub fs xs) there refl ∙ (sym (c.can_feed.ensures m) ∙ c.if-not-can_feed.false) in
     all_fed g.N.Machine m at c.from-number.result c.all_readers_up_to-readers.result 4294967295 hub c.take_out.new.hub fs c.hand_to_all.new.feeds f c.take_out.new.feed xs c.hand_to_all.new.subscriptions c.in-Ok.signals.items c.hand_to_all.new.signals.items
     there named c.all_readers_up_to-readers.ensures c.if-readers.false can c.in-Ok.ensures.taken c.hand_to_all.ensures
+
+pub hand_to_all-requires : goal.hand_to_all-requires
+hand_to_all-requires g c = record { unread = none_skipped g.N.Machine c.from-number.result c.none.result c.args.subscriptions.now c.none.ensures }

@@ -1,7 +1,10 @@
-use Rattle.rsx_graph_moves.specs.IdleSet.{IsIn}
-use Rattle.rsx_graph_moves.proofs.IdleSets.{no_bit}
+use Rattle.rsx_graph_moves.specs.IdleSet.{IsApart, IsIn}
 use Rattle.rsx_graph_moves.proofs.idle_set.IdleSet.clear.Goals as goal
 
-pub returns : goal.returns
+pub returns-clause-empty : goal.returns-clause-empty
 unfolding IsIn
-returns c = λ i has. no_bit i has.1
+returns-clause-empty c = c.clear.ensures
+
+pub returns-clause-apart : goal.returns-clause-apart
+unfolding IsApart
+returns-clause-apart c = λ h i known. known

@@ -1,20 +1,6 @@
-use Rattle.std.proofs.Common.{inl, inr, ◌∙◌, sym, arith, rules}
-use Rattle.std.proofs.lemmas.Bool.{cases_eq}
-use Rattle.rsx_graph_moves.specs.IdleSet.{IsIn}
-use Rattle.rsx_graph_moves.proofs.IdleSets.{bit_cleared}
+use Rattle.rsx_graph_moves.specs.IdleSet.{IsApart, IsIn}
 use Rattle.rsx_graph_moves.proofs.idle_set.IdleSet.remove.Goals as goal
 
-pub returns-then-sub-lt-MOST_IDLE : goal.returns-then-sub-lt-MOST_IDLE
-unfolding IsIn
-returns-then-sub-lt-MOST_IDLE c = λ i.
-    let k = bit_cleared c.args.self.now.words c.args.sub.0 (search rules) i in (
-      λ has. elim (cases_eq i c.args.sub.0) [
-        | inl e ↦ let off = k.0 e in let on = has.1 in absurd (omega (arith, off, on))
-        | inr ne ↦ ((has.0, sym (k.1 ne) ∙ has.1), ne)
-      ],
-      λ had. (had.0.0, k.1 had.1 ∙ had.0.1),
-    )
-
-pub returns-else-sub-lt-MOST_IDLE : goal.returns-else-sub-lt-MOST_IDLE
-unfolding IsIn
-returns-else-sub-lt-MOST_IDLE c = λ i. (λ has. (has, λ e. let lt = has.0 in let ge = c.if-sub-lt-MOST_IDLE.false in absurd (omega (arith, lt, ge, e))), λ had. had.0)
+pub returns : goal.returns
+unfolding IsApart IsIn
+returns c = record { idle = c.remove.ensures; apart = λ h i known. known }
