@@ -83,6 +83,23 @@ impl<T> Up<T> {
         !self.producer.is_full()
     }
 
+    /// How many signals the queue has room for; so many sends succeed then. The receiving end may make room for more at any time.
+    pub fn free(&mut self, link: &Link<T>) -> usize
+        requires { IsUpOf link.now self.old }
+        ensures same { SameUp link.now self.old self.new × (sent_signals self.new ≡ sent_signals self.old) }
+        ensures free { result ≡ free_slots self.new }
+    {
+        let _ = link;
+        self.producer.slots()
+    }
+
+    /// How many signals the end knows room for: as many as the last look at the queue found, less those sent since.
+    pub fn known_free(&self) -> usize
+        ensures { result ≡ free_slots self.now }
+    {
+        self.producer.cached_slots()
+    }
+
     /// Puts a signal into the queue, behind all that were sent before.
     ///
     /// The caller sees to it that an item is sent only while [`Up::room`] is not 0 (rule 1.1). An ending needs no
@@ -110,6 +127,23 @@ impl<T> Up<T> {
                 Ok(())
             }
             Err(PushError::Full(signal)) => Err(signal),
+        }
+    }
+
+    /// Puts a signal into the queue, as [`Up::send`] does, where [`Up::has_room`] said that there is a place: none comes back.
+    pub fn put(&mut self, link: &Link<T>, signal: Signal<T>)
+        requires end { IsUpOf link.now self.old }
+        requires asked { MaySend self.old signal }
+        requires room { 0 < free_slots self.old }
+        ensures same { SameUp link.now self.old self.new }
+        ensures sent { sent_signals self.new ≡ sent_signals self.old ++ signal ∷ [] }
+        ensures room { free_slots self.old ≡ free_slots self.new + 1 }
+    {
+        let _ = link;
+        let counts = is_item(&signal);
+        self.producer.push_reserved(signal);
+        if counts {
+            self.sent += 1;
         }
     }
 }

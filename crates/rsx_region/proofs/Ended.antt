@@ -1,5 +1,5 @@
 -- The ending among signals that were taken from a link.
-use Rattle.std.proofs.Common.{◌≡◌, List, [], ◌∷◌, ◌++◌, Option, Some, None, refl, ap, sym, ◌∙◌}
+use Rattle.std.proofs.Common.{◌≡◌, List, [], ◌∷◌, ◌++◌, Option, Some, None, refl, ap, sym, ◌∙◌, subst}
 use Rattle.rsx_sources.specs.Prelude.{Complete, Done, Ending, Error, Failed, Next, Signal}
 use Rattle.rsx_rooted.specs.Cutting.{endings}
 use Rattle.rsx_pipe.specs.Output.{IsUnended}
@@ -32,6 +32,18 @@ ended_still ss s e k some known = sym (first_some ss s k (sym known ∙ some))
 
 pub ended_now : {T : Type 0} (ss : List (Signal T)) (s t : Signal T) (e : Option Ending) → e ≡ None → s ≡ t → e ≡ first_ending ss → ending_in t ≡ first_ending (ss ++ s ∷ [])
 ended_now ss s t e none is known = ap ending_in (sym is) ∙ sym (first_none ss s (sym known ∙ none))
+
+-- an item ends nothing
+pub ended_item : {T : Type 0} (ss : List (Signal T)) (s : Signal T) (x : T) (e : Option Ending) → s ≡ Next x → e ≡ first_ending ss → e ≡ first_ending (ss ++ s ∷ [])
+ended_item {T} ss s x e is known =
+    let P : Signal T → Type 0 = λ t. e ≡ first_ending (ss ++ t ∷ []) in
+    subst P (sym is) (known ∙ sym (same ss x))
+  where
+    same : (ss : List (Signal T)) (x : T) → first_ending (ss ++ Next x ∷ []) ≡ first_ending ss
+    same [] x = refl
+    same (Next y ∷ ss) x = same ss x
+    same (Complete ∷ ss) x = refl
+    same (Error c ∷ ss) x = refl
 
 -- ---- what it says of the signals
 

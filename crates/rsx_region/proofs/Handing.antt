@@ -1,5 +1,5 @@
 -- A signal that came over a link is handed to the node that reads it.
-use Rattle.std.proofs.Common.{◌≡◌, ◌⊎◌, inl, inr, ℕ, zero, suc, ◌+◌, min, Bool, true, false, nat_eq, if◌then◌else◌, List, [], ◌∷◌, ◌++◌, refl, ap, sym, ◌∙◌, subst, arith, Option, Some, None, slice_get}
+use Rattle.std.proofs.Common.{◌≡◌, ◌⊎◌, inl, inr, ℕ, zero, suc, ◌+◌, Bool, true, false, nat_eq, if◌then◌else◌, List, [], ◌∷◌, ◌++◌, refl, ap, sym, ◌∙◌, subst, arith, Option, Some, None, slice_get}
 use Rattle.std.proofs.lemmas.Bool.Decides.{nat_tests}
 use Rattle.rsx_sources.specs.Prelude.{Meaning, Stream, Signal, Next, Complete, Error, Reading, reads_hub}
 use Rattle.rsx_sources.specs.declared.machine.Machine.{Ghosts as Machine}
@@ -134,9 +134,6 @@ stands_left {M} {T} b m taken old queued p u h came came' there same st =
 
 -- ---- out of the list of one
 
-pub one_reader : (k n : ℕ) → k ≡ min n 2 → k ≡ 1 → n ≡ 1
-one_reader k n e one = omega (arith, e, one)
-
 pub one_signal : {T : Type 0} (n : ℕ) (old before : List (Signal T)) (s : Signal T) → before ≡ [] → old ≡ before ++ s ∷ [] → n ≡ 1 → old ≡ times (0 + n) s
 one_signal {T} n old before s none is one =
     let N : ℕ → Type 0 = λ k. s ∷ [] ≡ times (0 + k) s in
@@ -154,10 +151,8 @@ pub record Passed {M T : Type 0} (b : Machine M T) (h : ℕ) (p p' : Part M) (le
   pub handed : IsHanded b h s p p'
   pub none : left ≡ []
 
-pub passed_one : {M T : Type 0} (b : Machine M T) (h at : ℕ) (p p' : Part M) (old before left : List (Signal T)) (s : Signal T) (k : ℕ) (r : Bool) → at ≡ h → k ≡ min (readers b at p) 2 → k ≡ 1 → r ≡ has_room_for b at p → r ≡ true → before ≡ [] → old ≡ before ++ s ∷ [] → IsHandedOut (readers b at p) (has_room_for b at p) old left (λ x. IsHanded b at x p p') → Passed b h p p' left s
-passed_one {M} {T} b h at p p' old before left s k r same count one is room none all out =
-    let reader = one_reader k (readers b at p) count one in
-    let free : has_room_for b at p ≡ true = sym is ∙ room in
-    let done = out s 0 (one_signal (readers b at p) old before s none all reader) (room_there s (has_room_for b at p) free) in
+pub passed_one : {M T : Type 0} (b : Machine M T) (h at : ℕ) (p p' : Part M) (old before left : List (Signal T)) (s : Signal T) → at ≡ h → (readers b at p ≡ 1) × (has_room_for b at p ≡ true) → before ≡ [] → old ≡ before ++ s ∷ [] → IsHandedOut (readers b at p) (has_room_for b at p) old left (λ x. IsHanded b at x p p') → Passed b h p p' left s
+passed_one {M} {T} b h at p p' old before left s same waits none all out =
+    let done = out s 0 (one_signal (readers b at p) old before s none all waits.0) (room_there s (has_room_for b at p) waits.1) in
     let P : ℕ → Type 0 = λ i. Passed b i p p' left s in
-    subst P same (record { reader = reader; room = free; handed = done.0; none = done.1 })
+    subst P same (record { reader = waits.0; room = waits.1; handed = done.0; none = done.1 })

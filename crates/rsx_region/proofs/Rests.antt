@@ -146,6 +146,3 @@ left_more {M} {T} b first p new at h one =
 
 pub left_all : {M T : Type 0} (b : Machine M T) (first p : Piece M T) (at : ℕ) → length p.inlets.items ≤ at → HasLeftBefore b at first p → HasLeftAll b first p
 left_all b first p at done h = record { tried = h.tried; left = before_all (CanNotPop b p.part) p.inlets.items at done h.left }
-
-pub stayed_first : {M T : Type 0} (b : Machine M T) (m : Meaning T) (first p new : Piece M T) → p ≡ first → HasStayed b m p new → HasStayed b m first new
-stayed_first {M} {T} b m first p new e h = let P : Piece M T → Type 0 = λ q. HasStayed b m q new in subst P e h

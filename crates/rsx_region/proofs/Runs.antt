@@ -1,11 +1,12 @@
 -- Steps of a piece, one after the other.
-use Rattle.std.proofs.Common.{◌≡◌, ℕ, ◌+◌, ◌≤◌, Bool, true, false, cond, List, [], ◌∷◌, ◌++◌, refl, ap, ◌∙◌, arith}
+use Rattle.std.proofs.Common.{◌≡◌, ℕ, ◌+◌, ◌≤◌, Bool, true, false, cond, List, [], ◌∷◌, ◌++◌, refl, ap, sym, ◌∙◌, arith, Option, Some, None, Ok}
 use mir.Val.{bool_byte as from_bool}
 use Rattle.rsx_sources.specs.Prelude.{Meaning}
 use Rattle.rsx_sources.specs.declared.machine.Machine.{Ghosts as Machine}
+use Rattle.rsx_tree.specs.declared.look.NodeMove.{NodeMove}
 use Rattle.rsx_tree.proofs.Runs.{leads_on}
 use Rattle.rsx_link.specs.declared.link.Link.{Link}
-use Rattle.rsx_region.specs.Steps.{Goes, IsStep, moves_in, move_count, pops_in, pop_count}
+use Rattle.rsx_region.specs.Steps.{Goes, IsStep, done, moves_in, move_count, pops_in, pop_count, was_made}
 use Rattle.rsx_region.specs.declared.piece.Piece.{Piece}
 use Rattle.rsx_region.specs.declared.step.Step.{Step}
 
@@ -46,12 +47,6 @@ goes_as b m links i j x y p q ex ey g = record { labels = g.labels; made = g.mad
 pub plus_none : (n x : ℕ) → x ≡ n → n + 0 ≡ x
 plus_none n x h = omega (arith, h)
 
-pub plus_true : (n x : ℕ) (f : Bool) → f ≡ true → n + 1 ≡ x → n + cond f 1 0 ≡ x
-plus_true n x f is h = ap (λ k. n + cond k 1 0) is ∙ h
-
-pub plus_false : (n x : ℕ) (f : Bool) → f ≡ false → x ≡ n → n + cond f 1 0 ≡ x
-plus_false n x f is h = ap (λ k. n + cond k 1 0) is ∙ plus_none n x h
-
 pub none_plus : (n x : ℕ) → x ≡ n → 0 + n ≡ x
 none_plus n x h = omega (arith, h)
 
@@ -62,6 +57,11 @@ one_more n k most false h other e = omega (arith, h, e)
 pub none_of : (n k : ℕ) (f : Bool) → n + k ≡ 0 → k ≡ cond f 1 0 → f ≡ false
 none_of n k true h e = absurd (omega (arith, h, e))
 none_of n k false h e = refl
+
+-- a move was named, so one was made
+pub one_made : (E : Type 0) (o : Option NodeMove) (made : NodeMove) (k x : ℕ) → o ≡ Some made → x ≡ 1 + k → done (was_made {E = E} (Ok o)) + k ≡ x
+one_made E (Some i) made k x is e = sym e
+one_made E None made k x is e = cc
 
 pub byte_cond : (f : Bool) → from_bool f ≡ cond f 1 0
 byte_cond true = refl

@@ -10,6 +10,7 @@ pub mod Moves
 pub mod Open
 pub mod Piece
 pub mod Pieces
+pub mod Readers
 pub mod Regions
 pub mod Serving
 pub mod Spread

@@ -1,8 +1,9 @@
 -- What each step of a piece changes.
-use Rattle.std.specs.Prelude.{◌≡◌, ℕ, ◌+◌, Bool, cond, List, [], ◌∷◌, Some, Result, Ok, Err, map, slice_get, slice_set}
+use Rattle.std.specs.Prelude.{◌≡◌, ℕ, ◌+◌, Bool, true, false, cond, List, [], ◌∷◌, Option, Some, None, Result, Ok, Err, map, slice_get, slice_set}
 use Rattle.rsx_sources.specs.Prelude.{Meaning, Signal}
 use Rattle.rsx_sources.specs.declared.machine.Machine.{Ghosts as Machine}
 use Rattle.rsx_tree.specs.declared.edge.EdgeState.TheVariants.{Live}
+use Rattle.rsx_tree.specs.declared.look.NodeMove.{NodeMove}
 use Rattle.rsx_tree.specs.Runs.{Leads}
 use Rattle.rsx_pipe.specs.Published.{reader_edge}
 use Rattle.rsx_link.specs.Ends.{carried_down, down_steps, received_signals, sent_signals, up_steps}
@@ -43,6 +44,12 @@ pops_in (l ∷ ls) = pop_count l + pops_in ls
 abbrev pub done : {E : Type 0} → Result Bool E → ℕ
 done (Ok b) = cond b 1 0
 done (Err e) = 0
+
+-- whether a move was made, where the answer names it
+abbrev pub was_made : {E : Type 0} → Result (Option NodeMove) E → Result Bool E
+was_made (Ok (Some move)) = Ok true
+was_made (Ok None) = Ok false
+was_made (Err e) = Err e
 
 -- what other threads see of a link that comes in, and what the piece took from it
 pub record Shown (T : Type 0) : Type 0 where

@@ -8,52 +8,18 @@ ghost use Rattle.rsx_region.specs.declared.piece.Piece.{Piece as PieceSpec};
 use crate::piece::Piece;
 use crate::serving::{Answer, Served, outcome};
 use rsx_link::Link;
-use rsx_pipe::{NoRoom, NodeMove, Nodes};
+use rsx_pipe::Nodes;
 use rsx_types::{NoMemory, Ops};
 use std::alloc::Global;
 
 impl<N: Nodes<Item = T>, T: Drop> Piece<N, T> {
-    /// Lets items go through the piece, one after the other, until nothing goes on. No link is looked at, and no request passed down, so
-    /// nothing is said of what is left to do.
+    /// Lets items go through the piece, one after the other, over this edge and those before it, until nothing goes on. No link that goes
+    /// out is looked at, and no request passed down, so nothing is said of what is left to do.
     ///
-    /// A signal is taken from each link that comes in. Where that can go on over an edge, it goes over that edge and over those before
-    /// it, whose numbers are smaller: in a chain of nodes that is its way to the root, which needs no search. Then it is sent into the
-    /// link that goes out. The next one is tried over the same edges.
-    pub(crate) fn flow<O: Ops<Item = T>>(
-        &mut self,
-        alloc: Global,
-        ops: &O,
-        links: &[Link<T>],
-        budget: u32,
-    ) -> Served
-        requires { IsPieceOf links.now self.old }
-        ensures ends { IsPieceOf links.now self.new }
-        ensures run { Goes N.Machine (O.meaning ops.now) links.now result.moves result.pops self.old self.new }
-        ensures most { result.moves + result.pops ≤ budget }
-        ensures budget { result.answer ≡ Answer.Budget → result.moves + result.pops ≡ budget }
-        ensures stands { (n : ℕ) (opening : PieceSpec N T) → StandsSince N.Machine (O.meaning ops.now) n opening self.old → StandsSince N.Machine (O.meaning ops.now) n opening self.new }
-    {
-        let popped = self.pop_each(links, budget);
-        match popped.answer {
-            Answer::Idle => {
-                let first = self.first_edge();
-                let rest = self.flow_over(alloc, ops, links, first, budget - popped.pops);
-                outcome(rest.answer, rest.moves, popped.pops + rest.pops)
-            }
-            Answer::Budget | Answer::NoMemory => popped,
-        }
-    }
-
-    /// The edge over which the first Send is enabled that a search finds, or 0.
-    fn first_edge(&self) -> u32 {
-        match self.part.first_enabled(&NoRoom) {
-            Some(NodeMove::Send(at)) => at,
-            _ => 0,
-        }
-    }
-
-    /// The same, over this edge and those before it.
-    fn flow_over<O: Ops<Item = T>>(
+    /// An item goes over this edge and over those before it, whose numbers are smaller: in a chain of nodes that is its way to the root,
+    /// which needs no search. Then it is sent into the link that goes out. A signal is taken from each link that comes in, and the next
+    /// item is tried over the same edges.
+    pub(crate) fn flow_over<O: Ops<Item = T>>(
         &mut self,
         alloc: Global,
         ops: &O,

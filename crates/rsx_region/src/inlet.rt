@@ -5,6 +5,7 @@ ghost use Rattle.rsx_link.specs.Ends.{cancels_of, received_signals};
 ghost use Rattle.rsx_region.specs.Endings.{first_ending};
 ghost use Rattle.rsx_types.specs.declared.signal.Signal.{Signal as SignalSpec};
 
+use crate::readers::waits_for;
 use rsx_link::{CancelSeat, Down, Link};
 use rsx_pipe::{EdgeState, Nodes, Part};
 use rsx_types::{Ending, NoMemory, Signal};
@@ -41,6 +42,18 @@ fn ended_by<T>(ended: Option<Ending>, signal: &Signal<T>) -> Option<Ending>
             Signal::Complete => Some(Ending::Done),
             Signal::Error(cause) => Some(Ending::Failed(*cause)),
         },
+    }
+}
+
+/// Counts a signal that comes behind some others: `ended` is the first ending among all of them, where it was the first among those. An
+/// item changes nothing.
+#[inline]
+fn count_ending<T>(ended: &mut Option<Ending>, signal: &Signal<T>)
+    ensures { (before : List (SignalSpec T)) → ended.old ≡ first_ending before → ended.new ≡ first_ending (before ++ signal.now ∷ []) }
+{
+    match signal {
+        Signal::Next(_) => {}
+        Signal::Complete | Signal::Error(_) => *ended = ended_by(*ended, signal),
     }
 }
 
@@ -114,17 +127,14 @@ impl<T: Drop> Inlet<T> {
             InletStands N.Machine taken part.old other → InletStands N.Machine (with_come self.new taken) part.new other }
     {
         let hub = u64::from(self.hub);
-        if part.readers_up_to(hub, 2) != 1 {
-            return Ok(false);
-        }
-        if !part.has_room_for(hub) {
+        if !waits_for(part, hub) {
             return Ok(false);
         }
         self.hand.reserve(1)?;
         let Some(signal) = self.down.take(link) else {
             return Ok(false);
         };
-        self.ended = ended_by(self.ended, &signal);
+        count_ending(&mut self.ended, &signal);
         self.hand.push_reserved(signal);
         part.hand(hub, &mut self.hand);
         Ok(true)

@@ -30,12 +30,12 @@
 //! - [`spreading`]: [`spread`] and [`gather`], by which pieces are put into regions and taken out again.
 //! - [`trees`]: [`CutTrees`], trees that are cut at one edge after the other, and joined again.
 //!
-//! The definitions stand in `specs/`. Of a part and the ends of its links one by one: `Piece` (what a piece stands for), `Moves`
-//! (what each call changes), `Inlet` and `Endings` (what it has of a link that comes in), `Open` (what stands over an edge), and
-//! `Joining`, `Joined` and `Whole` (what two are that are joined). Of a [`Piece`]: `Pieces` (the ends of a piece, and what it stands
-//! for), `Steps` (what each step changes), `Serving` (when a piece is at rest), `Cuts` (how a piece is cut), `Halves` (both halves),
-//! `Joins` (when they can be joined, and to what), `Regions` (the same of all pieces of a region), `Trees` (what trees were before
-//! they were cut at many edges) and `Spread` (pieces that were put into regions).
+//! The definitions stand in `specs/`. Of a part and the ends of its links one by one: `Piece` (what a piece stands for), `Moves` (what
+//! each call changes), `Inlet`, `Endings` and `Readers` (what it has of a link that comes in, and who reads that), `Open` (what stands
+//! over an edge), and `Joining`, `Joined` and `Whole` (what two are that are joined). Of a [`Piece`]: `Pieces` (the ends of a piece,
+//! and what it stands for), `Steps` (what each step changes), `Serving` (when a piece is at rest), `Cuts` (how a piece is cut),
+//! `Halves` (both halves), `Joins` (when they can be joined, and to what), `Regions` (the same of all pieces of a region), `Trees`
+//! (what trees were before they were cut at many edges) and `Spread` (pieces that were put into regions).
 
 pub mod cutting;
 pub mod flowing;
@@ -46,6 +46,7 @@ pub mod opening;
 pub mod outgoing;
 pub mod part_steps;
 pub mod piece;
+mod readers;
 pub mod region;
 pub mod serving;
 pub mod spreading;

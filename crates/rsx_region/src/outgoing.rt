@@ -11,6 +11,7 @@ ghost use Rattle.rsx_link.specs.declared.up.Up.{Up as UpSpec};
 ghost use Rattle.rsx_region.specs.Inlet.{InletStands};
 ghost use Rattle.rsx_region.specs.Moves.{HasKept, HasMoved, HasSent, IsLooked};
 ghost use Rattle.rsx_region.specs.Piece.{IsInStep, PieceStands};
+ghost use Rattle.rsx_region.specs.Steps.{was_made};
 ghost use Rattle.rsx_region.specs.declared.inlet.Inlet.{Inlet as InletSpec};
 
 use rsx_link::{Found, Link, Up};
@@ -80,10 +81,35 @@ pub fn work<N: Nodes<Item = O::Item>, O: Ops>(
         PieceStands N.Machine (O.meaning ops.now) taken old queued part.old up → PieceStands N.Machine (O.meaning ops.now) taken old queued part.new up }
     ensures inlets { (taken : List (Stream O.Item)) (i : InletSpec O.Item) → InletStands N.Machine taken part.old i → InletStands N.Machine taken part.new i }
 {
+    match work_first(alloc, ops, part) {
+        Ok(made) => Ok(made.is_some()),
+        Err(NoMemory) => Err(NoMemory),
+    }
+}
+
+/// The same, and answers the move that it made.
+pub(crate) fn work_first<N: Nodes<Item = O::Item>, O: Ops>(
+    alloc: Global,
+    ops: &O,
+    part: &mut Part<N>,
+) -> Result<Option<NodeMove>, NoMemory>
+    ensures moved { IfOk (was_made result) (λ b. b ≡ true → HasMoved N.Machine (O.meaning ops.now) part.old part.new) }
+    ensures none { IfOk (was_made result) (λ b. b ≡ false → (part.new ≡ part.old) × (part.old.root.state ≡ EdgeState.Live → IsQuietInside N.Machine (O.meaning ops.now) part.old)) }
+    ensures same { OnErr (was_made result) (part.new ≡ part.old) }
+    ensures after { (part.old.root.state ≡ EdgeState.Live → ⊥) → part.new ≡ part.old }
+    ensures step { (up : UpSpec O.Item) → IsInStep part.old up → IsInStep part.new up }
+    ensures stands { (taken : List (Stream O.Item)) (old : Node N) (queued : List (Signal O.Item)) (up : UpSpec O.Item) →
+        PieceStands N.Machine (O.meaning ops.now) taken old queued part.old up → PieceStands N.Machine (O.meaning ops.now) taken old queued part.new up }
+    ensures inlets { (taken : List (Stream O.Item)) (i : InletSpec O.Item) → InletStands N.Machine taken part.old i → InletStands N.Machine taken part.new i }
+{
     let Some(step) = part.first_enabled(&NoRoom) else {
-        return Ok(false);
+        return Ok(None);
     };
-    work_at(alloc, ops, part, step)
+    match work_at(alloc, ops, part, step) {
+        Ok(true) => Ok(Some(step)),
+        Ok(false) => Ok(None),
+        Err(NoMemory) => Err(NoMemory),
+    }
 }
 
 /// Makes this move inside the part, where it is enabled, and answers whether it did. Of a piece whose root edge isn't live nothing
@@ -147,13 +173,10 @@ pub fn send<N: Nodes<Item = O::Item>, O: Ops>(
         return Ok(false);
     }
     match part.send_out(alloc, ops) {
-        Ok(signal) => match up.send(link, signal) {
-            Ok(()) => Ok(true),
-            Err(signal) => {
-                part.put_back(signal);
-                Ok(false)
-            }
-        },
+        Ok(signal) => {
+            up.put(link, signal);
+            Ok(true)
+        }
         Err(NotMade::NoMemory) => Err(NoMemory),
         Err(NotMade::NotEnabled) => Ok(false),
     }

@@ -7,13 +7,13 @@ ghost use Rattle.rsx_link.specs.declared.link.Link.{Link as LinkSpec};
 ghost use Rattle.rsx_tree.specs.Reads.{IsTreeReadAt};
 ghost use Rattle.rsx_region.specs.Piece.{IsInStep};
 ghost use Rattle.rsx_region.specs.Pieces.{IsAt, IsPieceOf, StandsSince};
-ghost use Rattle.rsx_region.specs.Steps.{Goes, done};
+ghost use Rattle.rsx_region.specs.Steps.{Goes, done, was_made};
 ghost use Rattle.rsx_region.specs.Serving.{HasLeftOne, HasPassedOn, HasSeen, HasStayed};
 ghost use Rattle.rsx_region.specs.declared.piece.Piece.{Piece as PieceSpec};
 
 use crate::inlet::Inlet;
 use crate::outgoing::{look, send, work_at};
-use crate::part_steps::step;
+use crate::part_steps::start;
 use rsx_link::{Link, Up};
 use rsx_pipe::{EdgeState, NodeMove, Nodes, Part};
 use rsx_types::{NoMemory, Ops};
@@ -95,6 +95,7 @@ impl<N: Nodes<Item = T>, T: Drop> Piece<N, T> {
     ///
     /// # Errors
     /// [`NoMemory`] where a growth was refused. Then nothing changed.
+    #[inline(never)]
     pub(crate) fn pop_at(&mut self, at: usize, links: &[Link<T>]) -> Result<bool, NoMemory>
         requires ends { IsPieceOf links.now self.old }
         requires there { at < length self.old.inlets.items }
@@ -109,27 +110,27 @@ impl<N: Nodes<Item = T>, T: Drop> Piece<N, T> {
         incoming.inlet.pop(&mut self.part, link)
     }
 
-    /// Makes a move, where one is enabled, and answers whether it did. Of a piece whose root edge isn't live nothing changes.
+    /// Makes a move, where one is enabled, and answers which. Of a piece whose root edge isn't live nothing changes.
     ///
     /// # Errors
     /// [`NoMemory`] where a growth was refused. Then no move was made.
-    pub(crate) fn step<O: Ops<Item = T>>(
+    pub(crate) fn start<O: Ops<Item = T>>(
         &mut self,
         alloc: Global,
         ops: &O,
         links: &[Link<T>],
-    ) -> Result<bool, NoMemory>
+    ) -> Result<Option<NodeMove>, NoMemory>
         requires { IsPieceOf links.now self.old }
         ensures ends { IsPieceOf links.now self.new }
-        ensures run { Goes N.Machine (O.meaning ops.now) links.now (done result) 0 self.old self.new }
+        ensures run { Goes N.Machine (O.meaning ops.now) links.now (done (was_made result)) 0 self.old self.new }
         ensures stands { (n : ℕ) (opening : PieceSpec N T) → StandsSince N.Machine (O.meaning ops.now) n opening self.old → StandsSince N.Machine (O.meaning ops.now) n opening self.new }
-        ensures still { IfOk result (λ b. b ≡ false → HasStayed N.Machine (O.meaning ops.now) self.old self.new) }
+        ensures still { IfOk (was_made result) (λ b. b ≡ false → HasStayed N.Machine (O.meaning ops.now) self.old self.new) }
     {
         if !self.part.root_edge().is_live() {
-            return Ok(false);
+            return Ok(None);
         }
         let link = link_at(links, self.link);
-        step(alloc, ops, &mut self.part, &mut self.up, link)
+        start(alloc, ops, &mut self.part, &mut self.up, link)
     }
 
     /// Makes the Send over the root edge, into the link that goes out, where it is enabled, and answers whether it did.

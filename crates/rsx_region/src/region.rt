@@ -1,6 +1,6 @@
 //! The pieces that one holder of a gate at a time works on.
 
-ghost use Rattle.std.specs.Prelude.{◌≡◌, ◌+◌, ◌<◌, ◌≤◌, ℕ, List, length};
+ghost use Rattle.std.specs.Prelude.{◌≡◌, ◌+◌, ◌<◌, ◌≤◌, ℕ, List, false, length};
 ghost use Rattle.rsx_region.specs.Regions.{AreAtRest, ArePiecesOf, IsServedAt, RegionGoes, RegionStands};
 ghost use Rattle.rsx_region.specs.declared.piece.Piece.{Piece as PieceSpec};
 
@@ -24,7 +24,7 @@ pub struct Region<N, T> {
 
 impl<N: Nodes<Item = T>, T: Drop> Region<N, T> {
     /// Serves the pieces one after the other by [`Piece::serve`], and again, until none of them makes a move or takes a signal, or
-    /// the budget is used up, which they share.
+    /// the budget is used up, which they share. A single piece is served once.
     ///
     /// After [`Answer::Budget`] call it again. After [`Answer::NoMemory`] what was done before stands, and it may be called again,
     /// too.
@@ -53,7 +53,7 @@ impl<N: Nodes<Item = T>, T: Drop> Region<N, T> {
             match round.answer {
                 Answer::NoMemory => return outcome(Answer::NoMemory, moves, pops),
                 Answer::Idle => {
-                    if round.moves + round.pops == 0 {
+                    if self.is_enough(round) {
                         return outcome(Answer::Idle, moves, pops);
                     }
                 }
@@ -61,6 +61,14 @@ impl<N: Nodes<Item = T>, T: Drop> Region<N, T> {
             }
         }
         outcome(Answer::Budget, moves, pops)
+    }
+
+    /// Whether no further round is made after this one: where it made no move and took no signal, and where there is a single piece, to
+    /// which no other one can have sent anything meanwhile.
+    fn is_enough(&self, round: Served) -> bool
+        ensures { result ≡ false → 0 < round.moves + round.pops }
+    {
+        self.pieces.len() == 1 || (round.moves == 0 && round.pops == 0)
     }
 
     /// Serves each piece once.

@@ -1,6 +1,6 @@
 //! A piece served under a budget.
 
-ghost use Rattle.std.specs.Prelude.{◌≡◌, ◌+◌, ◌≤◌, ℕ};
+ghost use Rattle.std.specs.Prelude.{◌≡◌, ◌+◌, ◌<◌, ◌≤◌, ℕ};
 ghost use Rattle.rsx_types.specs.Meaning.{Meaning};
 ghost use Rattle.rsx_region.specs.Pieces.{Each, IsPieceOf, StandsSince};
 ghost use Rattle.rsx_region.specs.Steps.{Goes};
@@ -9,7 +9,7 @@ ghost use Rattle.rsx_region.specs.declared.piece.Piece.{Piece as PieceSpec};
 
 use crate::piece::Piece;
 use rsx_link::Link;
-use rsx_pipe::{EdgeState, Nodes};
+use rsx_pipe::{EdgeState, NodeMove, Nodes};
 use rsx_types::{NoMemory, Ops};
 use std::alloc::Global;
 
@@ -38,8 +38,8 @@ pub struct Served {
 impl<N: Nodes<Item = T>, T: Drop> Piece<N, T> {
     /// Does what there is to do for the piece, until nothing is left or the budget is used up. It looks at the link that goes out,
     /// passes requests and cancels down the links that come in, takes from each the signal that its reader has room for, and makes
-    /// the moves that are enabled; and so on, from the start. Between that it lets items go through, one after the other, as long as
-    /// they go the way that a search found. A signal that is taken from a link counts as a move does, so that what one call does is
+    /// the moves that are enabled; and so on, from the start. After a Send that a search found it lets items go through, one after the
+    /// other, as long as they go the same way. A signal that is taken from a link counts as a move does, so that what one call does is
     /// bounded.
     ///
     /// Where it answers [`Answer::Idle`], the link that goes out was looked at, and all requests were passed on. After
@@ -65,7 +65,7 @@ impl<N: Nodes<Item = T>, T: Drop> Piece<N, T> {
         let mut moves = 0;
         let mut pops = 0;
         while moves + pops < budget {
-            let turn = self.advance(alloc, ops, links, budget - moves - pops);
+            let turn = self.turn(alloc, ops, links, budget - moves - pops);
             moves += turn.moves;
             pops += turn.pops;
             match turn.answer {
@@ -79,35 +79,6 @@ impl<N: Nodes<Item = T>, T: Drop> Piece<N, T> {
             }
         }
         outcome(Answer::Budget, moves, pops)
-    }
-
-    /// Items that go through, and where none does a turn.
-    fn advance<O: Ops<Item = T>>(
-        &mut self,
-        alloc: Global,
-        ops: &O,
-        links: &[Link<T>],
-        budget: u32,
-    ) -> Served
-        requires { IsPieceOf links.now self.old }
-        ensures ends { IsPieceOf links.now self.new }
-        ensures run { Goes N.Machine (O.meaning ops.now) links.now result.moves result.pops self.old self.new }
-        ensures most { result.moves + result.pops ≤ budget }
-        ensures budget { result.answer ≡ Answer.Budget → result.moves + result.pops ≡ budget }
-        ensures idle { result.answer ≡ Answer.Idle → result.moves + result.pops ≡ 0 → IsAtRest N.Machine (O.meaning ops.now) self.new }
-        ensures seen { result.answer ≡ Answer.Idle → result.moves + result.pops ≡ 0 → self.new.part.root.state ≡ EdgeState.Live → HasSeen self.old self.new }
-        ensures stands { (n : ℕ) (opening : PieceSpec N T) → StandsSince N.Machine (O.meaning ops.now) n opening self.old → StandsSince N.Machine (O.meaning ops.now) n opening self.new }
-    {
-        let flowed = self.flow(alloc, ops, links, budget);
-        match flowed.answer {
-            Answer::Idle => {
-                if flowed.moves + flowed.pops > 0 {
-                    return flowed;
-                }
-                self.turn(alloc, ops, links, budget)
-            }
-            Answer::Budget | Answer::NoMemory => flowed,
-        }
     }
 
     /// A look, a request down each link, a signal from each, and then moves. Where nothing was taken and no move made, and it answers
@@ -133,8 +104,8 @@ impl<N: Nodes<Item = T>, T: Drop> Piece<N, T> {
         let popped = self.pop_each(links, budget);
         match popped.answer {
             Answer::Idle => {
-                let made = self.move_on(alloc, ops, links, budget - popped.pops);
-                outcome(made.answer, made.moves, popped.pops)
+                let rest = self.move_on(alloc, ops, links, budget - popped.pops);
+                outcome(rest.answer, rest.moves, popped.pops + rest.pops)
             }
             Answer::Budget => popped,
             Answer::NoMemory => popped,
@@ -157,6 +128,7 @@ impl<N: Nodes<Item = T>, T: Drop> Piece<N, T> {
 
     /// Takes a signal from each link whose reader has room for one, but at most `budget`. Answers [`Answer::Idle`] where each was
     /// tried.
+    #[inline]
     pub(crate) fn pop_each(&mut self, links: &[Link<T>], budget: u32) -> Served
         requires { IsPieceOf links.now self.old }
         ensures ends { IsPieceOf links.now self.new }
@@ -180,7 +152,7 @@ impl<N: Nodes<Item = T>, T: Drop> Piece<N, T> {
         outcome(Answer::Idle, 0, pops)
     }
 
-    /// Makes moves until none is enabled, but at most `budget`.
+    /// Makes moves until none is enabled, but at most `budget`, and takes signals where items go through.
     fn move_on<O: Ops<Item = T>>(
         &mut self,
         alloc: Global,
@@ -190,21 +162,58 @@ impl<N: Nodes<Item = T>, T: Drop> Piece<N, T> {
     ) -> Served
         requires { IsPieceOf links.now self.old }
         ensures ends { IsPieceOf links.now self.new }
-        ensures run { Goes N.Machine (O.meaning ops.now) links.now result.moves 0 self.old self.new }
-        ensures pops { result.pops ≡ 0 }
-        ensures most { result.moves ≤ budget }
-        ensures budget { result.answer ≡ Answer.Budget → result.moves ≡ budget }
-        ensures idle { result.answer ≡ Answer.Idle → result.moves ≡ 0 → HasStayed N.Machine (O.meaning ops.now) self.old self.new }
+        ensures run { Goes N.Machine (O.meaning ops.now) links.now result.moves result.pops self.old self.new }
+        ensures most { result.moves + result.pops ≤ budget }
+        ensures budget { result.answer ≡ Answer.Budget → result.moves + result.pops ≡ budget }
+        ensures idle { result.answer ≡ Answer.Idle → result.moves + result.pops ≡ 0 → HasStayed N.Machine (O.meaning ops.now) self.old self.new }
         ensures stands { (n : ℕ) (opening : PieceSpec N T) → StandsSince N.Machine (O.meaning ops.now) n opening self.old → StandsSince N.Machine (O.meaning ops.now) n opening self.new }
     {
-        for moves in 0..budget {
-            match self.step(alloc, ops, links) {
-                Ok(true) => {}
-                Ok(false) => return outcome(Answer::Idle, moves, 0),
-                Err(NoMemory) => return outcome(Answer::NoMemory, moves, 0),
+        let mut made = 0;
+        let mut taken = 0;
+        while made + taken < budget {
+            let some = self.go_on(alloc, ops, links, budget - made - taken);
+            made += some.moves;
+            taken += some.pops;
+            match some.answer {
+                Answer::NoMemory => return outcome(Answer::NoMemory, made, taken),
+                Answer::Idle => {
+                    if some.moves + some.pops == 0 {
+                        return outcome(Answer::Idle, made, taken);
+                    }
+                }
+                Answer::Budget => {}
             }
         }
-        outcome(Answer::Budget, budget, 0)
+        outcome(Answer::Budget, made, taken)
+    }
+
+    /// Makes the first enabled move, which a search finds. Where it is a Send, items go through after it as long as they go the same
+    /// way. Where no move is enabled, nothing changes.
+    fn go_on<O: Ops<Item = T>>(
+        &mut self,
+        alloc: Global,
+        ops: &O,
+        links: &[Link<T>],
+        budget: u32,
+    ) -> Served
+        requires some { 0 < budget }
+        requires ends { IsPieceOf links.now self.old }
+        ensures ends { IsPieceOf links.now self.new }
+        ensures run { Goes N.Machine (O.meaning ops.now) links.now result.moves result.pops self.old self.new }
+        ensures most { result.moves + result.pops ≤ budget }
+        ensures budget { result.answer ≡ Answer.Budget → result.moves + result.pops ≡ budget }
+        ensures idle { result.answer ≡ Answer.Idle → result.moves + result.pops ≡ 0 → HasStayed N.Machine (O.meaning ops.now) self.old self.new }
+        ensures stands { (n : ℕ) (opening : PieceSpec N T) → StandsSince N.Machine (O.meaning ops.now) n opening self.old → StandsSince N.Machine (O.meaning ops.now) n opening self.new }
+    {
+        match self.start(alloc, ops, links) {
+            Ok(Some(NodeMove::Send(first))) => {
+                let rest = self.flow_over(alloc, ops, links, first, budget - 1);
+                outcome(rest.answer, 1 + rest.moves, rest.pops)
+            }
+            Ok(Some(_)) => outcome(Answer::Idle, 1, 0),
+            Ok(None) => outcome(Answer::Idle, 0, 0),
+            Err(NoMemory) => outcome(Answer::NoMemory, 0, 0),
+        }
     }
 }
 

@@ -1,30 +1,41 @@
-use Rattle.std.proofs.Common.{◌+◌, refl, arith}
-use Rattle.rsx_region.proofs.Runs.{goes_then, plus_false, plus_none, plus_true}
+use Rattle.std.proofs.Common.{refl, sym, arith}
+use Rattle.rsx_region.proofs.Runs.{goes_then}
 use Rattle.rsx_region.proofs.piece.Piece.move_on.Goals as goal
 
-pub returns-in-Ok-false-clause-run : goal.returns-in-Ok-false-clause-run
-returns-in-Ok-false-clause-run g c =
-    let n = c.loop-moves.moves in
-    goes_then g.N.Machine (g.O.Ops.meaning c.args.ops.now) c.args.links.now n 0 _ 0 c.outcome.result.moves 0 c.args.self.now c.loop-moves.self c.step.new.self (plus_false n c.outcome.result.moves c.in-Ok-false.field-0 c.in-Ok-false.field-0-test c.outcome.ensures.1) refl c.loop-moves.invariant.run c.in-Ok-false.ensures.run
+pub returns-in-NoMemory-clause-run : goal.returns-in-NoMemory-clause-run
+returns-in-NoMemory-clause-run g c = goes_then g.N.Machine (g.O.Ops.meaning c.args.ops.now) c.args.links.now c.loop-made.made c.loop-made.taken c.go_on-some.result.moves c.go_on-some.result.pops c.outcome.result.moves c.outcome.result.pops c.args.self.now c.loop-made.self c.go_on-some.new.self (sym c.outcome.ensures.1) (sym c.outcome.ensures.2) c.loop-made.invariant.run c.go_on-some.ensures.run
 
-pub returns-in-Ok-false-clause-stands : goal.returns-in-Ok-false-clause-stands
-returns-in-Ok-false-clause-stands g c n opening h = c.in-Ok-false.ensures.stands n opening (c.loop-moves.invariant.stands n opening h)
+pub returns-in-NoMemory-clause-stands : goal.returns-in-NoMemory-clause-stands
+returns-in-NoMemory-clause-stands g c n opening h = c.go_on-some.ensures.stands n opening (c.loop-made.invariant.stands n opening h)
 
-pub returns-in-Err-clause-run : goal.returns-in-Err-clause-run
-returns-in-Err-clause-run g c =
-    let n = c.loop-moves.moves in
-    goes_then g.N.Machine (g.O.Ops.meaning c.args.ops.now) c.args.links.now n 0 0 0 c.outcome-in-Err.result.moves 0 c.args.self.now c.loop-moves.self c.step.new.self (plus_none n c.outcome-in-Err.result.moves c.outcome-in-Err.ensures.1) refl c.loop-moves.invariant.run c.in-Err.ensures.run
+pub returns-then-some-eq0-clause-run : goal.returns-then-some-eq0-clause-run
+returns-then-some-eq0-clause-run g c = goes_then g.N.Machine (g.O.Ops.meaning c.args.ops.now) c.args.links.now c.loop-made.made c.loop-made.taken c.go_on-some.result.moves c.go_on-some.result.pops c.outcome-then-some-eq0.result.moves c.outcome-then-some-eq0.result.pops c.args.self.now c.loop-made.self c.go_on-some.new.self (sym c.outcome-then-some-eq0.ensures.1) (sym c.outcome-then-some-eq0.ensures.2) c.loop-made.invariant.run c.go_on-some.ensures.run
 
-pub returns-in-Err-clause-stands : goal.returns-in-Err-clause-stands
-returns-in-Err-clause-stands g c n opening h = c.in-Err.ensures.stands n opening (c.loop-moves.invariant.stands n opening h)
+pub returns-then-some-eq0-clause-stands : goal.returns-then-some-eq0-clause-stands
+returns-then-some-eq0-clause-stands g c n opening h = c.go_on-some.ensures.stands n opening (c.loop-made.invariant.stands n opening h)
 
-pub loop-moves-preserved : goal.loop-moves-preserved
-loop-moves-preserved g c =
-    let n = c.loop-moves.moves in
-    let i = c.loop-moves.invariant in
-    let s = c.in-Ok-true.ensures in record {
+pub loop-made-preserved-else-some-eq0 : goal.loop-made-preserved-else-some-eq0
+loop-made-preserved-else-some-eq0 g c =
+    let i = c.loop-made.invariant in
+    let s = c.go_on-some.ensures in
+    let before = i.most in
+    let most = s.most in record {
       ends = s.ends;
-      run = goes_then g.N.Machine (g.O.Ops.meaning c.args.ops.now) c.args.links.now n 0 _ 0 (n + 1) 0 c.args.self.now c.loop-moves.self c.step.new.self (plus_true n (n + 1) c.in-Ok-true.field-0 c.in-Ok-true.field-0-test refl) refl i.run s.run;
-      stands = λ k opening h. s.stands k opening (i.stands k opening h);
-      first = λ e. absurd (omega (arith, e));
+      run = goes_then g.N.Machine (g.O.Ops.meaning c.args.ops.now) c.args.links.now c.loop-made.made c.loop-made.taken c.go_on-some.result.moves c.go_on-some.result.pops _ _ c.args.self.now c.loop-made.self c.go_on-some.new.self refl refl i.run s.run;
+      stands = λ n opening h. s.stands n opening (i.stands n opening h);
+      most = omega (arith, before, most);
+      first = λ e. absurd (omega (arith, e, c.if-some-eq0.false));
+    }
+
+pub loop-made-preserved : goal.loop-made-preserved
+loop-made-preserved g c =
+    let i = c.loop-made.invariant in
+    let s = c.go_on-some.ensures in
+    let before = i.most in
+    let most = s.most in record {
+      ends = s.ends;
+      run = goes_then g.N.Machine (g.O.Ops.meaning c.args.ops.now) c.args.links.now c.loop-made.made c.loop-made.taken c.go_on-some.result.moves c.go_on-some.result.pops _ _ c.args.self.now c.loop-made.self c.go_on-some.new.self refl refl i.run s.run;
+      stands = λ n opening h. s.stands n opening (i.stands n opening h);
+      most = omega (arith, before, most);
+      first = λ e. let all = s.budget c.in-Budget.is in absurd (omega (arith, e, all, c.loop-made-test.true));
     }

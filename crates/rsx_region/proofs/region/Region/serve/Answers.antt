@@ -8,17 +8,17 @@ returns-in-NoMemory-clause-run g c = region_goes_then g.N.Machine (g.O.Ops.meani
 pub returns-in-NoMemory-clause-stands : goal.returns-in-NoMemory-clause-stands
 returns-in-NoMemory-clause-stands g c n opening h = c.round-round.ensures.stands n opening (c.loop-moves.invariant.stands n opening h)
 
-pub returns-then-round-eq0-clause-run : goal.returns-then-round-eq0-clause-run
-returns-then-round-eq0-clause-run g c = region_goes_then g.N.Machine (g.O.Ops.meaning c.args.ops.now) c.args.links.now c.loop-moves.moves c.loop-moves.pops c.round-round.result.moves c.round-round.result.pops c.outcome-then-round-eq0.result.moves c.outcome-then-round-eq0.result.pops c.args.self.now.pieces.items c.loop-moves.self.pieces.items c.round-round.new.self.pieces.items (sym c.outcome-then-round-eq0.ensures.1) (sym c.outcome-then-round-eq0.ensures.2) c.loop-moves.invariant.run c.round-round.ensures.run
+pub returns-then-is_enough-clause-run : goal.returns-then-is_enough-clause-run
+returns-then-is_enough-clause-run g c = region_goes_then g.N.Machine (g.O.Ops.meaning c.args.ops.now) c.args.links.now c.loop-moves.moves c.loop-moves.pops c.round-round.result.moves c.round-round.result.pops c.outcome-then-is_enough.result.moves c.outcome-then-is_enough.result.pops c.args.self.now.pieces.items c.loop-moves.self.pieces.items c.round-round.new.self.pieces.items (sym c.outcome-then-is_enough.ensures.1) (sym c.outcome-then-is_enough.ensures.2) c.loop-moves.invariant.run c.round-round.ensures.run
 
-pub returns-then-round-eq0-clause-stands : goal.returns-then-round-eq0-clause-stands
-returns-then-round-eq0-clause-stands g c n opening h = c.round-round.ensures.stands n opening (c.loop-moves.invariant.stands n opening h)
+pub returns-then-is_enough-clause-stands : goal.returns-then-is_enough-clause-stands
+returns-then-is_enough-clause-stands g c n opening h = c.round-round.ensures.stands n opening (c.loop-moves.invariant.stands n opening h)
 
-pub returns-then-round-eq0-clause-idle : goal.returns-then-round-eq0-clause-idle
-returns-then-round-eq0-clause-idle g c e = c.round-round.ensures.idle c.in-Idle.is
+pub returns-then-is_enough-clause-idle : goal.returns-then-is_enough-clause-idle
+returns-then-is_enough-clause-idle g c e = c.round-round.ensures.idle c.in-Idle.is
 
-pub loop-moves-preserved-else-round-eq0 : goal.loop-moves-preserved-else-round-eq0
-loop-moves-preserved-else-round-eq0 g c =
+pub loop-moves-preserved-else-is_enough : goal.loop-moves-preserved-else-is_enough
+loop-moves-preserved-else-is_enough g c =
     let i = c.loop-moves.invariant in
     let s = c.round-round.ensures in
     let before = i.most in
