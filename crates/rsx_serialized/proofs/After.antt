@@ -1,5 +1,5 @@
 -- What has happened to a graph that came back, up to the close of its links.
-use Rattle.std.proofs.Common.{Vec, Global, ◌≡◌, ℕ, Bool, true, false, ◌||◌, List, [], ◌++◌, append_assoc, refl, ap, sym, ◌∙◌, subst, arith, Some, slice_get}
+use Rattle.std.proofs.Common.{Vec, Global, ◌≡◌, ℕ, ◌+◌, Bool, true, false, ◌||◌, List, [], ◌++◌, append_assoc, length, refl, ap, sym, ◌∙◌, subst, arith, Some, slice_get}
 use Rattle.std.specs.Option.{option_to_list}
 use Rattle.std.proofs.lemmas.Grind.{flat_map-append}
 use Rattle.std.proofs.lemmas.List.{append-nil}
@@ -14,9 +14,9 @@ use Rattle.rsx_graph.specs.declared.graph.Graph.{Graph}
 use Rattle.rsx_link.specs.Ends.{received_signals, sent_signals}
 use Rattle.rsx_runtime.specs.declared.emitter.Emitter.{Emitter}
 use Rattle.rsx_runtime.specs.declared.tap.Tap.{Tap}
-use Rattle.rsx_serialized.specs.Closing.{AreAllThere, AreEmitterEnds, AreTapEnds, EmitterSince, EmittersClose, HasClosed, IsClosedSince, IsFirstRefused, IsStoppedBy, TapSince, TapsClose, signals_at}
+use Rattle.rsx_serialized.specs.Closing.{AreAllThere, AreEmitterEnds, AreTapEnds, EmitterSince, EmittersClose, HasAllTaps, HasClosed, IsClosedSince, IsFirstRefused, IsStoppedBy, TapSince, TapsClose, signals_at}
 use Rattle.rsx_serialized.specs.Ends.{Beside, InletGoes, OutletGoes, held}
-use Rattle.rsx_serialized.specs.Events.{Event, asked_by, asked_in, given_by, given_in, published_by, published_in, signal_for, signals_for, stopped_in}
+use Rattle.rsx_serialized.specs.Events.{AreKnown, Event, asked_by, asked_in, given_by, given_in, published_by, published_in, signal_for, signals_for, stopped_in, subscribed_by, subscribed_in}
 use Rattle.rsx_serialized.specs.Opened.{HasStopped}
 use Rattle.rsx_serialized.specs.Regions.{StandsSince}
 use Rattle.rsx_serialized.specs.Started.{AreEmittersOf, AreTapsOf, IsFresh}
@@ -28,9 +28,10 @@ use Rattle.rsx_serialized.specs.declared.region.GraphRegion.{GraphRegion}
 use Rattle.rsx_serialized.specs.declared.region.Links.{Links}
 use Rattle.rsx_serialized.proofs.Closes.{emitter_ends, tap_ends}
 use Rattle.rsx_serialized.proofs.Goes.{stands_on, stopped_on}
-use Rattle.rsx_serialized.proofs.Left.{EmitterFound, Silent, TapFound, Untold, emitter_found, silent, tap_found, untold}
+use Rattle.rsx_serialized.proofs.Known.{known_on}
+use Rattle.rsx_serialized.proofs.Left.{EmitterFound, Settled, Silent, TapFound, Untold, emitter_found, settled_emitters, settled_taps, silent, tap_found, untold}
 use Rattle.rsx_serialized.proofs.Lists.{there}
-use Rattle.rsx_serialized.proofs.Since.{since}
+use Rattle.rsx_serialized.proofs.Late.{since}
 
 -- a flag that was seen before is one that is seen now
 absorbed : (x y : Bool) → (x ≡ true → y ≡ true) → x || y ≡ y
@@ -84,6 +85,18 @@ module _ {T : Type 0} where
         stopped = subst (λ (b : Bool). IsStoppedBy t b) (sym flag) f.why;
       }
 
+  -- the subscriptions that were there before the links were closed are there still
+  after_none : (n r : ℕ) (es fs gs : List (Event T)) → subscribed_in fs ≡ [] → r ≡ n + length (subscribed_in es) → AreKnown r gs → AreKnown (n + length (subscribed_in (es ++ fs))) gs
+  after_none n r es fs gs alone subs known =
+      let here : subscribed_in (es ++ fs) ≡ subscribed_in es = flat_map-append subscribed_by es fs ∙ (ap (λ l. subscribed_in es ++ l) alone ∙ append-nil (subscribed_in es)) in
+      subst (λ (k : ℕ). AreKnown k gs) (subs ∙ ap (λ l. n + length l) (sym here)) known
+
+  all_subs : (taps r n : ℕ) (es fs gs : List (Event T)) → taps ≡ r → r ≡ n + length (subscribed_in es) → subscribed_in fs ≡ [] → subscribed_in gs ≡ [] → taps ≡ n + length (subscribed_in ((es ++ fs) ++ gs))
+  all_subs taps r n es fs gs every subs alone quiet =
+      let first : subscribed_in (es ++ fs) ≡ subscribed_in es = flat_map-append subscribed_by es fs ∙ (ap (λ l. subscribed_in es ++ l) alone ∙ append-nil (subscribed_in es)) in
+      let all : subscribed_in ((es ++ fs) ++ gs) ≡ subscribed_in es = flat_map-append subscribed_by (es ++ fs) gs ∙ (ap (λ l. subscribed_in (es ++ fs) ++ l) quiet ∙ (append-nil (subscribed_in (es ++ fs)) ∙ first)) in
+      every ∙ (subs ∙ ap (λ l. n + length l) (sym all))
+
   -- each emitter publishes at the hub of the end at its place still
   hubs_still : (es : List (Event T)) (is js : List (FromEmitter T)) (ems : List (Emitter T)) → Beside (λ k. InletGoes es) is js → Beside (λ k (i : FromEmitter T) (e : Emitter T). e.hub ≡ i.hub) is ems → (k : ℕ) (j : FromEmitter T) (e : Emitter T) → slice_get js k ≡ Some j → slice_get ems k ≡ Some e → e.hub ≡ j.hub
   hubs_still es is js ems goes hubs k j e at em =
@@ -93,10 +106,10 @@ module _ {T : Type 0} where
       hubs.each k i.0 e i.1 em ∙ sym (goes.each k i.0 j i.1 at).hub
 
 module _ {O T : Type 0} {b : Ops O T} where
-  pub closed_since : (s : Stopped O T b) (mid : Graph O T b) (c : Closed O T b) (untaken : List (SubId × Signal T)) → AreAllThere s → mid.ops ≡ s.region.graph.ops → c.graph.ops ≡ mid.ops →
+  pub closed_since : (s : Stopped O T b) (mid : Graph O T b) (c : Closed O T b) (untaken : List (SubId × Signal T)) → AreAllThere s → HasAllTaps s → mid.ops ≡ s.region.graph.ops → c.graph.ops ≡ mid.ops →
       TapsClose (b.meaning s.region.graph.ops) 0 s.region.outlets.items s.taps.items (state_of s.region.graph) (state_of mid) [] untaken → EmittersClose (b.meaning mid.ops) s.region.inlets.items s.emitters.items (state_of mid) (state_of c.graph) [] c.unpublished.items →
       c.untaken.items ≡ untaken ++ s.region.pending.items → HasClosed s c
-  closed_since s mid c untaken all one two taps emitters put opening stopped fresh =
+  closed_since s mid c untaken all every one two taps emitters put opening stopped fresh =
       let m = b.meaning opening.graph.ops in
       let r = s.region in
       let es = stopped.events in
@@ -107,6 +120,10 @@ module _ {O T : Type 0} {b : Ops O T} where
       let third : StandsSince m gs (state_of mid) (state_of c.graph) = subst (λ (o : O). StandsSince (b.meaning o) gs (state_of mid) (state_of c.graph)) (one ∙ same) emitters.stands in
       let more : taps.more ≡ untaken = sym taps.put in
       let left : emitters.more ≡ c.unpublished.items = sym emitters.put in
+      let n = length (state_of opening.graph).joins in
+      let r0 = length (state_of r.graph).joins in
+      let told : Settled r0 fs = settled_taps r0 0 fs taps.more r.outlets.items s.taps.items (omega (arith, every)) taps.left in
+      let quiet_gs : Settled r0 gs = settled_emitters r0 gs emitters.more r.inlets.items s.emitters.items emitters.left in
       let quiet : (k : ℕ) → Silent k fs = λ k. silent 0 fs taps.more r.outlets.items s.taps.items taps.left k in
       record {
         events = (es ++ fs) ++ gs;
@@ -125,6 +142,8 @@ module _ {O T : Type 0} {b : Ops O T} where
             let now : TapSince k (es ++ fs) (untaken ++ r.pending.items) o t = tap_since k o p.0 t es fs r.pending.items untaken g (fresh.outlets k o at) (quiet k) f in
             subst (λ (l : List (SubId × Signal T)). TapSince k ((es ++ fs) ++ gs) l o t) (sym put) (tap_after k o t (es ++ fs) gs (untaken ++ r.pending.items) (untold gs emitters.more r.inlets.items s.emitters.items emitters.left k) now);
         since = λ h. since ((es ++ fs) ++ gs) h;
+        known = known_on n (es ++ fs) gs (known_on n es fs stopped.goes.events (subst (λ (k : ℕ). AreKnown k fs) stopped.goes.subs told.known)) (after_none n r0 es fs gs told.alone stopped.goes.subs quiet_gs.known);
+        subs = all_subs (length s.taps.items) r0 n es fs gs every stopped.goes.subs told.alone quiet_gs.alone;
       }
 
   -- the ends of the links, one after the other
@@ -135,16 +154,16 @@ module _ {O T : Type 0} {b : Ops O T} where
       record { ends = ((all.emitters.ends.each k l e p r).1, down.0, down.1); room = omega (arith, room) })
 
   pub tap_ends_of : (s : Stopped O T b) → AreAllThere s → AreTapEnds s.region.outlets.items s.links.taps.items s.taps.items
-  tap_ends_of s all = tap_ends s.links.taps.items s.region.outlets.items s.taps.items all.ends.outlets.count all.taps.count (λ k l o t p q r.
+  tap_ends_of s all = tap_ends s.links.taps.items s.region.outlets.items s.taps.items all.ends.outlets.count all.taps.few (λ k l o t p q r.
       let up = all.ends.outlets.each k l o p q in
       let room = all.tap_room k l p in
       record { end = up.0; passed = up.1; tap = (all.taps.each k l t p r).2; room = omega (arith, room) })
 
   -- what the single calls of a close say
   pub closes_all : (s : Stopped O T b) (mid : Graph O T b) (c : Closed O T b) (is : List (FromEmitter T)) (es : List (Emitter T)) (os : List (ToTap T)) (ts : List (Tap T)) (ps : List (SubId × Signal T)) (none : List (HubId × Signal T)) (before after : List (SubId × Signal T)) →
-      AreAllThere s → mid.ops ≡ s.region.graph.ops → c.graph.ops ≡ mid.ops → os ≡ s.region.outlets.items → ts ≡ s.taps.items → TapsClose (b.meaning s.region.graph.ops) 0 os ts (state_of s.region.graph) (state_of mid) before after → before ≡ [] →
+      AreAllThere s → HasAllTaps s → mid.ops ≡ s.region.graph.ops → c.graph.ops ≡ mid.ops → os ≡ s.region.outlets.items → ts ≡ s.taps.items → TapsClose (b.meaning s.region.graph.ops) 0 os ts (state_of s.region.graph) (state_of mid) before after → before ≡ [] →
       is ≡ s.region.inlets.items → es ≡ s.emitters.items → EmittersClose (b.meaning mid.ops) is es (state_of mid) (state_of c.graph) none c.unpublished.items → none ≡ [] → c.untaken.items ≡ after ++ ps → ps ≡ s.region.pending.items → HasClosed s c
-  closes_all s mid c is es os ts ps none before after all one two outs taps close begun ins ems left first put rest =
+  closes_all s mid c is es os ts ps none before after all every one two outs taps close begun ins ems left first put rest =
       let m = b.meaning s.region.graph.ops in
       let n = b.meaning mid.ops in
       let B : List (SubId × Signal T) → Type 0 = λ l. TapsClose m 0 s.region.outlets.items s.taps.items (state_of s.region.graph) (state_of mid) l after in
@@ -153,7 +172,7 @@ module _ {O T : Type 0} {b : Ops O T} where
       let E : List (HubId × Signal T) → Type 0 = λ l. EmittersClose n s.region.inlets.items s.emitters.items (state_of mid) (state_of c.graph) l c.unpublished.items in
       let here : EmittersClose n s.region.inlets.items s.emitters.items (state_of mid) (state_of c.graph) none c.unpublished.items =
       subst (λ (x : List (FromEmitter T)). EmittersClose n x s.emitters.items (state_of mid) (state_of c.graph) none c.unpublished.items) ins (subst (λ (x : List (Emitter T)). EmittersClose n is x (state_of mid) (state_of c.graph) none c.unpublished.items) ems left) in
-      closed_since s mid c after all one two (subst B begun there) (subst E first here) (put ∙ ap (λ l. after ++ l) rest)
+      closed_since s mid c after all every one two (subst B begun there) (subst E first here) (put ∙ ap (λ l. after ++ l) rest)
 
   -- all ends are there as the graph comes out of its gate
   pub all_there : (opening now : GraphRegion O T b) (links own : Links T) (es : Vec (Emitter T) Global) (ts : Vec (Tap T) Global) → own ≡ links → HasStopped links opening now → IsFresh links opening → AreEmittersOf links.emitters.items opening.inlets.items es.items → AreTapsOf links.taps.items ts.items → AreAllThere {b = b} (record { region = now; links = own; emitters = es; taps = ts })

@@ -81,6 +81,10 @@ longer : {X : Type 0} (xs : List X) (n : ℕ) → length xs ≡ suc n → Longer
 longer [] n e = cc
 longer (x ∷ xs) n e = record { first = x; rest = xs; is = refl }
 
+some_there : {X : Type 0} (xs : List X) → 0 < length xs → Longer xs
+some_there [] lt = absurd (omega (arith, lt))
+some_there (x ∷ xs) lt = record { first = x; rest = xs; is = refl }
+
 -- how many the others are
 fewer : {X : Type 0} (xs rest : List X) (x : X) (n : ℕ) → xs ≡ x ∷ rest → length xs ≡ suc n → n ≡ length rest
 fewer xs rest x n e k = let l : length xs ≡ suc (length rest) = ap length e in omega (arith, k, l)
@@ -120,18 +124,17 @@ module _ {T : Type 0} where
         emitter_ends a.rest is b.rest p (sym q ∙ p) (λ k x y z u v w. f (suc k) x y z (ap (λ l. slice_get l (suc k)) a.is ∙ u) v (ap (λ l. slice_get l (suc k)) b.is ∙ w)),
       )
 
-  pub tap_ends : (ls : List (Link T)) (os : List (ToTap T)) (ts : List (Tap T)) → length os ≡ length ls → length ts ≡ length ls →
+  pub tap_ends : (ls : List (Link T)) (os : List (ToTap T)) (ts : List (Tap T)) → length os ≡ length ls → length ts ≤ length ls →
       ((k : ℕ) (l : Link T) (o : ToTap T) (t : Tap T) → slice_get ls k ≡ Some l → slice_get os k ≡ Some o → slice_get ts k ≡ Some t → IsTapEnd o l t) → AreTapEnds os ls ts
-  tap_ends ls [] ts c d f = (none_left ls (length ls) refl (sym c), none_left ts (length ts) refl (d ∙ sym c))
-  tap_ends ls (o ∷ os) ts c d f =
-      let n = length os in
-      let a = longer ls n (sym c) in
-      let b = longer ts n (d ∙ sym c) in
-      let p = fewer ls a.rest a.first n a.is (sym c) in
-      let q = fewer ts b.rest b.first n b.is (d ∙ sym c) in (
+  tap_ends ls os [] c d f = tt
+  tap_ends ls os (t ∷ ts) c d f =
+      let a = some_there ls (omega (arith, d)) in
+      let b = some_there os (omega (arith, c, d)) in
+      let p : length ls ≡ suc (length a.rest) = ap length a.is in
+      let q : length os ≡ suc (length b.rest) = ap length b.is in (
         record { link = a.first; links = a.rest; other = b.first; others = b.rest; link_first = a.is; other_first = b.is },
-        f 0 a.first o b.first (ap (λ l. slice_get l 0) a.is) refl (ap (λ l. slice_get l 0) b.is),
-        tap_ends a.rest os b.rest p (sym q ∙ p) (λ k x y z u v w. f (suc k) x y z (ap (λ l. slice_get l (suc k)) a.is ∙ u) v (ap (λ l. slice_get l (suc k)) b.is ∙ w)),
+        f 0 a.first b.first t (ap (λ l. slice_get l 0) a.is) (ap (λ l. slice_get l 0) b.is) refl,
+        tap_ends a.rest b.rest ts (omega (arith, c, p, q)) (omega (arith, d, p)) (λ k x y z u v w. f (suc k) x y z (ap (λ l. slice_get l (suc k)) a.is ∙ u) (ap (λ l. slice_get l (suc k)) b.is ∙ v) w),
       )
 
   -- the same lists
@@ -192,7 +195,7 @@ module _ {T : Type 0} where
   -- ---- one link of a tap
 
   pub passed_on : (o : ToTap T) (n : ℕ) → IsPassedOn o → seen_total o.up ≤ n → o.asked ≤ n
-  passed_on o n passed le = let p : o.asked ≡ min UNBOUNDED (seen_total o.up) = passed in omega (arith, p, le)
+  passed_on o n passed le = let p = passed.most in omega (arith, p, le)
 
   pub total_bounded : (d : Down T) → asked_total d ≤ UNBOUNDED
   total_bounded d = subst (λ (n : ℕ). n ≤ UNBOUNDED) d.asks d.demand.bounded
@@ -233,15 +236,15 @@ module _ {T : Type 0} where
 
   -- ---- all links of taps
 
-  pub taps_none : (m : Meaning T) (at : ℕ) (os : List (ToTap T)) (ls : List (Link T)) (ts : List (Tap T)) (g : GraphState T) (before : List (SubId × Signal T)) → os ≡ [] → AreTapEnds os ls ts → TapsClose m at os ts g g before before
-  taps_none m at [] ls ts g before none ends = record {
+  pub taps_none : (m : Meaning T) (at : ℕ) (os : List (ToTap T)) (ts : List (Tap T)) (g : GraphState T) (before : List (SubId × Signal T)) → ts ≡ [] → TapsClose m at os ts g g before before
+  taps_none m at os [] g before none = record {
     events = [];
     stands = λ h k. k;
     more = [];
     put = sym (append-nil before);
-    left = (refl, refl, ends.1);
+    left = (refl, refl);
   }
-  taps_none m at (o ∷ os) ls ts g before none ends = cc
+  taps_none m at os (t ∷ ts) g before none = cc
 
   pub taps_more : (m : Meaning T) (at next : ℕ) (sub : SubId) (all os : List (ToTap T)) (every ts : List (Tap T)) (o : ToTap T) (t : Tap T) (a b c : GraphState T) (x y z : List (SubId × Signal T)) → all ≡ o ∷ os → every ≡ t ∷ ts → sub.0 ≡ at → next ≡ suc at →
       TapCloses m sub o t a b x y → TapsClose m next os ts b c y z → TapsClose m at all every a c x z

@@ -17,12 +17,12 @@ use Rattle.rsx_runtime.specs.declared.emitter.Emitter.{Emitter}
 use Rattle.rsx_runtime.specs.declared.tap.Tap.{Tap}
 use Rattle.rsx_serialized.specs.Calls.{IsAt}
 use Rattle.rsx_serialized.specs.Driven.{ChangesAt, EmitterChanges, TapRequests}
-use Rattle.rsx_serialized.specs.Started.{AreEmittersOf, AreTapsOf, IsStarted}
+use Rattle.rsx_serialized.specs.Started.{AreEmittersOf, AreTapsOf, IsStarted, IsTapAt}
 use Rattle.rsx_serialized.specs.declared.ends.FromEmitter.{FromEmitter}
 use Rattle.rsx_serialized.specs.declared.opening.Opening.{Opening}
 use Rattle.rsx_serialized.specs.declared.region.GraphRegion.{GraphRegion}
 use Rattle.rsx_serialized.specs.declared.starting.StartedGraph.{StartedGraph}
-use Rattle.rsx_serialized.proofs.Lists.{beside_set, there}
+use Rattle.rsx_serialized.proofs.Lists.{beside_set, few_set, there}
 
 -- ---- lists
 
@@ -102,21 +102,20 @@ module _ {T : Type 0} (links : List (Link T)) where
     -- there is one at each place within, which is over its link
     pub tap_over : (k : ℕ) → k < length ts → IsAmong ts k (λ t. IsAt links t.link (λ l. IsTapOf l t))
     tap_over k within =
-        let long = h.count in
-        let l = there links k (omega (arith, within, long)) in
+        let few = h.few in
+        let l = there links k (omega (arith, within, few)) in
         let t = there ts k within in
         let own = h.each k l.0 t.0 l.1 t.1 in
         (t.0, t.1, (l.0, ap (slice_get links) own.0 ∙ l.1, own.2))
 
     tap_put : (place : ℕ) (was now : Tap T) → slice_get ts place ≡ Some was → IsAt links was.link (λ l. KeepsTap l was now) → AreTapsOf links (slice_set ts place now)
     tap_put place was now at keeps =
-        let P : ℕ → Link T → Tap T → Type 0 = λ k l t. (t.link ≡ k) × (t.sub.0 ≡ k) × IsTapOf l t in
-        beside_set P P links ts place now
+        few_set IsTapAt links ts place now
         (λ l e.
         let own = h.each place l was e at in
         let same = one_link place was.link keeps.0 l own.0 keeps.1 e in
         (keeps.2.2 ∙ own.0, ap (λ (x : SubId). x.0) keeps.2.1 ∙ own.1, subst (λ (x : Link T). IsTapOf x now) same keeps.2.0))
-        (λ k x y apart e f p. p) h
+        h
 
     -- one changed, over its link
     pub taps_put : (us : List (Tap T)) (place : ℕ) (did : Tap T → Tap T → Type 0) → ChangesAt place ts us (λ was now. IsAt links was.link (λ l. KeepsTap l was now) × did was now) → AreTapsOf links us

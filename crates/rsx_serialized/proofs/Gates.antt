@@ -16,7 +16,7 @@ use Rattle.rsx_serialized.specs.declared.region.GraphRegion.{GraphRegion}
 use Rattle.rsx_serialized.specs.declared.region.Links.{Links}
 use Rattle.rsx_serialized.specs.Opened.{HasStopped}
 use Rattle.rsx_serialized.proofs.Goes.{region_on, region_same}
-use Rattle.rsx_serialized.proofs.Since.{since}
+use Rattle.rsx_serialized.proofs.Late.{since}
 
 module _ {O T : Type 0} {b : Ops O T} where
   -- a seat that made such a step, and let nothing go, has the graph still
@@ -33,7 +33,7 @@ module _ {O T : Type 0} {b : Ops O T} where
       subst L opened (subst R (value h.0 h.1) h.2.0)
 
   -- what it came to fits
-  held_now : (g : Gate (GraphRegion O T b) (Opening O T b)) (links : Links T) (old new : Seat (GraphRegion O T b) (View (Opening O T b))) (r s : GraphRegion O T b) → (key_of g).links.value ≡ links → HasFitting g (Holds g old) → ((x : GraphRegion O T b) → Holds g old x → x ≡ r) → new ≡ seat_with_value old s → GoesOn links r s → Holds g new s × Fits (key_of g) s
+  pub held_now : (g : Gate (GraphRegion O T b) (Opening O T b)) (links : Links T) (old new : Seat (GraphRegion O T b) (View (Opening O T b))) (r s : GraphRegion O T b) → (key_of g).links.value ≡ links → HasFitting g (Holds g old) → ((x : GraphRegion O T b) → Holds g old x → x ≡ r) → new ≡ seat_with_value old s → GoesOn links r s → Holds g new s × Fits (key_of g) s
   held_now g links old new r s opened h value put goes =
       let key = key_of g in
       let F : GraphRegion O T b → Type 0 = λ x. Fits key x in

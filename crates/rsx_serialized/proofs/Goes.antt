@@ -1,5 +1,5 @@
 -- A region goes on: one list of things that have happened behind another.
-use Rattle.std.proofs.Common.{◌≡◌, ℕ, Bool, true, false, ◌||◌, List, [], ◌∷◌, ◌++◌, append_assoc, refl, ap, sym, ◌∙◌, subst}
+use Rattle.std.proofs.Common.{◌≡◌, ℕ, ◌+◌, Bool, true, false, ◌||◌, List, [], ◌∷◌, ◌++◌, append_assoc, length, length-append, refl, ap, sym, ◌∙◌, subst, arith}
 use Rattle.std.specs.Option.{option_to_list}
 use Rattle.std.proofs.lemmas.Grind.{flat_map-append}
 use Rattle.std.proofs.lemmas.List.{append-nil}
@@ -13,12 +13,13 @@ use Rattle.rsx_graph.specs.Rows.{History}
 use Rattle.rsx_graph.specs.Stands.{GraphStands, GraphState}
 use Rattle.rsx_link.specs.Ends.{carried_up, received_signals, sent_signals}
 use Rattle.rsx_serialized.specs.Ends.{InletGoes, OutletGoes, held, is_flagged}
-use Rattle.rsx_serialized.specs.Events.{Event, after_event, after_events, asked_by, asked_in, given_by, given_in, published_by, published_in, signals_for, stopped_by, stopped_in}
+use Rattle.rsx_serialized.specs.Events.{AreKnown, Event, after_event, after_events, asked_by, asked_in, given_by, given_in, published_by, published_in, signals_for, stopped_by, stopped_in, subscribed_by, subscribed_in}
 use Rattle.rsx_serialized.specs.Regions.{AreEndsOf, Goes, GoesBy, GoesOn, StandsSince}
 use Rattle.rsx_serialized.specs.declared.ends.FromEmitter.{FromEmitter}
 use Rattle.rsx_serialized.specs.declared.ends.ToTap.{ToTap}
 use Rattle.rsx_serialized.specs.declared.region.GraphRegion.{GraphRegion}
 use Rattle.rsx_serialized.specs.declared.region.Links.{Links}
+use Rattle.rsx_serialized.proofs.Known.{known_on}
 use Rattle.rsx_serialized.proofs.Lists.{beside_on, beside_same, lists_on}
 
 pub or_on : (a b c : Bool) → a || (b || c) ≡ (a || b) || c
@@ -81,6 +82,12 @@ outlet_same k pending a b s c n f = record {
   stopped = λ h. cc;
 }
 
+count_on : (x y z a c d : ℕ) → y ≡ x + a → z ≡ y + c → d ≡ a + c → z ≡ x + d
+count_on x y z a c d f g h = omega arith
+
+pub no_more : (n m : ℕ) → m ≡ n → m ≡ n + 0
+no_more n m e = omega arith
+
 module _ {O T : Type 0} {b : Ops O T} where
   pub goes_by_on : (m : Meaning T) (es fs : List (Event T)) (x y z : GraphRegion O T b) → GoesBy m es x y → GoesBy m fs y z → GoesBy m (es ++ fs) x z
   goes_by_on m es fs x y z f g = record {
@@ -88,6 +95,8 @@ module _ {O T : Type 0} {b : Ops O T} where
     stands = stands_on m es fs (state_of x.graph) (state_of y.graph) (state_of z.graph) f.stands g.stands;
     inlets = beside_on (λ k. InletGoes es) (λ k. InletGoes fs) (λ k. InletGoes (es ++ fs)) x.inlets.items y.inlets.items z.inlets.items (λ k a c d. inlet_on es fs a c d) f.inlets g.inlets;
     outlets = beside_on (λ k. OutletGoes k es x.pending.items y.pending.items) (λ k. OutletGoes k fs y.pending.items z.pending.items) (λ k. OutletGoes k (es ++ fs) x.pending.items z.pending.items) x.outlets.items y.outlets.items z.outlets.items (λ k a c d. outlet_on k es fs x.pending.items y.pending.items z.pending.items a c d) f.outlets g.outlets;
+    subs = count_on (length (state_of x.graph).joins) (length (state_of y.graph).joins) (length (state_of z.graph).joins) (length (subscribed_in es)) (length (subscribed_in fs)) _ f.subs g.subs (ap length (flat_map-append subscribed_by es fs) ∙ length-append (subscribed_in es) (subscribed_in fs));
+    events = known_on (length (state_of x.graph).joins) es fs f.events (subst (λ (n : ℕ). AreKnown n fs) f.subs g.events);
     known = λ h. g.known (f.known h);
   }
 
@@ -97,6 +106,8 @@ module _ {O T : Type 0} {b : Ops O T} where
     stands = λ h k. k;
     inlets = beside_same (λ k. InletGoes []) x.inlets.items (λ k i e. inlet_same i i refl refl refl refl);
     outlets = beside_same (λ k. OutletGoes k [] x.pending.items x.pending.items) x.outlets.items (λ k o e. outlet_same k x.pending.items o o refl refl refl (λ h. h));
+    subs = no_more (length (state_of x.graph).joins) _ refl;
+    events = tt;
     known = λ h. h;
   }
 

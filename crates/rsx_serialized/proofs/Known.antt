@@ -1,9 +1,10 @@
 -- Moves deliver to subscriptions that are there.
-use Rattle.std.proofs.Common.{◌≡◌, ℕ, suc, ◌<◌, Bool, true, false, nat_eq, List, [], ◌∷◌, ◌++◌, length, refl, ap, sym, ◌∙◌, subst, Option, Some, None}
+use Rattle.std.proofs.Common.{◌≡◌, ℕ, zero, suc, ◌+◌, ◌<◌, Bool, true, false, nat_eq, List, [], ◌∷◌, ◌++◌, map, length, refl, ap, sym, ◌∙◌, subst, arith, Option, Some, None}
 use Rattle.std.specs.Option.{option_to_list}
 use Rattle.std.proofs.lemmas.List.{length-map, length-set}
 use Rattle.std.proofs.lemmas.Option.{slice_get_within}
 use Rattle.rsx_types.specs.Meaning.{Meaning}
+use Rattle.rsx_types.specs.declared.names.HubId.{HubId}
 use Rattle.rsx_types.specs.declared.names.Move.{Move}
 use Rattle.rsx_types.specs.declared.names.Move.TheVariants.{Accept, Ask, Pick, Row, Send, Take}
 use Rattle.rsx_types.specs.declared.names.SubId.{SubId}
@@ -18,7 +19,9 @@ use Rattle.rsx_graph.specs.InGraph.{state_of}
 use Rattle.rsx_graph.specs.Kinds.{IsMadeAt, IsMoved, IsMovedBy, IsMovedInFeed, feed_move}
 use Rattle.rsx_graph.specs.Rows.{LeadTo, Made, Rows, delivered_by}
 use Rattle.rsx_graph.specs.declared.graph.Graph.{Graph}
-use Rattle.rsx_serialized.specs.Regions.{AreFor}
+use Rattle.rsx_serialized.specs.Events.{AreFor, AreKnown, Event, asked, moved, published, stopped, subscribed, subscribed_in}
+use Rattle.rsx_serialized.specs.Told.{publishes}
+use Rattle.rsx_serialized.proofs.Steps.{answer_given, told}
 
 pub for_all : {T : Type 0} (n : ℕ) (ds es : List (SubId × Signal T)) → AreFor n ds → AreFor n es → AreFor n (ds ++ es)
 for_all n [] es f g = g
@@ -77,6 +80,51 @@ module _ {T : Type 0} where
   moves_for m n old new (d ∷ ds) long l =
       let first : AreFor n (option_to_list d.delivered) = subst (λ (k : ℕ). AreFor k (option_to_list d.delivered)) long (move_for m d.move old l.0 d.delivered l.1.effect l.1.answer) in
       for_all n (option_to_list d.delivered) (delivered_by ds) first (moves_for m n l.0 new ds (moved_length m d.move old l.0 d.delivered l.1.effect ∙ long) l.2)
+
+  -- ---- what is said of subscriptions is said of ones that are there
+
+  pub moves_known : (m : Meaning T) (n : ℕ) (old new : Rows T) (ds : List (Made T)) → length old.subs ≡ n → LeadTo m old ds new → AreKnown n (map moved ds)
+  moves_known m n old new [] long l = tt
+  moves_known m n old new (d ∷ ds) long l =
+      let first : AreFor n (option_to_list d.delivered) = subst (λ (k : ℕ). AreFor k (option_to_list d.delivered)) long (move_for m d.move old l.0 d.delivered l.1.effect l.1.answer) in
+      (subst (λ (o : Option (SubId × Signal T)). AreFor n (option_to_list o)) (sym (answer_given d.move d.delivered l.1.answer)) first, moves_known m n l.0 new ds (moved_length m d.move old l.0 d.delivered l.1.effect ∙ long) l.2)
+
+  pub moves_subscribed : (ds : List (Made T)) → subscribed_in (map moved ds) ≡ []
+  moves_subscribed [] = refl
+  moves_subscribed (d ∷ ds) = moves_subscribed ds
+
+  pub publishes_known : (n : ℕ) (h : HubId) (ss : List (Signal T)) → AreKnown n (publishes h ss)
+  publishes_known n h [] = tt
+  publishes_known n h (s ∷ ss) = publishes_known n h ss
+
+  pub publishes_subscribed : (h : HubId) (ss : List (Signal T)) → subscribed_in (publishes h ss) ≡ []
+  publishes_subscribed h [] = refl
+  publishes_subscribed h (s ∷ ss) = publishes_subscribed h ss
+
+  -- two lists of things that have happened, one behind the other
+  pub known_on : (n : ℕ) (es fs : List (Event T)) → AreKnown n es → AreKnown (n + length (subscribed_in es)) fs → AreKnown n (es ++ fs)
+  known_on n [] fs f g =
+      let e : n + 0 ≡ n = omega arith in
+      subst (λ (k : ℕ). AreKnown k fs) e g
+  known_on n (moved d ∷ es) fs f g = (f.0, known_on n es fs f.1 g)
+  known_on n (published k s ∷ es) fs f g = known_on n es fs f g
+  known_on n (asked i m ∷ es) fs f g = (f.0, known_on n es fs f.1 g)
+  known_on n (stopped i ∷ es) fs f g = (f.0, known_on n es fs f.1 g)
+  known_on n (subscribed x ∷ es) fs f g =
+      let e : n + suc (length (subscribed_in es)) ≡ suc n + length (subscribed_in es) = omega arith in
+      known_on (suc n) es fs f (subst (λ (k : ℕ). AreKnown k fs) e g)
+
+pub told_known : (T : Type 0) (n : ℕ) (i : SubId) (m : ℕ) (s : Bool) → i.0 < n → AreKnown n (told {T = T} i m s)
+told_known T n i zero true lt = (lt, tt)
+told_known T n i zero false lt = tt
+told_known T n i (suc m) true lt = (lt, (lt, tt))
+told_known T n i (suc m) false lt = (lt, tt)
+
+pub told_subscribed : (T : Type 0) (i : SubId) (m : ℕ) (s : Bool) → subscribed_in (told {T = T} i m s) ≡ []
+told_subscribed T i zero true = refl
+told_subscribed T i zero false = refl
+told_subscribed T i (suc m) true = refl
+told_subscribed T i (suc m) false = refl
 
 module _ {O T : Type 0} {b : Ops O T} where
   pub as_many : (g : Graph O T b) → length (state_of g).rows.subs ≡ length (state_of g).joins

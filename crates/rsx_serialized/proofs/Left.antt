@@ -1,5 +1,5 @@
 -- What is left of the links of a graph that came back, found by the numbers of subscriptions and hubs.
-use Rattle.std.proofs.Common.{◌≡◌, ℕ, zero, suc, ◌+◌, ◌<◌, ◌≤◌, Bool, true, false, ◌||◌, List, [], ◌∷◌, ◌++◌, refl, ap, sym, ◌∙◌, subst, arith, Some, slice_get}
+use Rattle.std.proofs.Common.{◌≡◌, ℕ, zero, suc, ◌+◌, ◌<◌, ◌≤◌, Bool, true, false, ◌||◌, List, [], ◌∷◌, ◌++◌, length, refl, ap, sym, ◌∙◌, subst, arith, Some, slice_get}
 use Rattle.std.proofs.lemmas.Grind.{flat_map-append}
 use Rattle.std.proofs.lemmas.List.{append-nil}
 use Rattle.std.proofs.lemmas.List.Sums.{fold-append}
@@ -13,12 +13,13 @@ use Rattle.rsx_runtime.specs.declared.emitter.Emitter.{Emitter}
 use Rattle.rsx_runtime.specs.declared.tap.Tap.{Tap}
 use Rattle.rsx_serialized.specs.Closing.{AllEmittersLeft, AllTapsLeft, EmitterLeft, IsFirstRefused, IsStoppedBy, TapLeft, named, signal_at, signals_at}
 use Rattle.rsx_serialized.specs.Ends.{held, is_flagged}
-use Rattle.rsx_serialized.specs.Events.{Event, asked_by, asked_in, given_by, given_in, published_by, published_in, signal_for, signals_for, stopped_in}
+use Rattle.rsx_serialized.specs.Events.{AreKnown, Event, asked_by, asked_in, given_by, given_in, published_by, published_in, signal_for, signals_for, stopped_in, subscribed_by, subscribed_in}
 use Rattle.rsx_serialized.specs.Told.{publishes}
 use Rattle.rsx_serialized.specs.declared.ends.FromEmitter.{FromEmitter}
 use Rattle.rsx_serialized.specs.declared.ends.ToTap.{ToTap}
 use Rattle.rsx_serialized.proofs.Closes.{hub_elsewhere, hub_here, named_elsewhere, named_here, total_bounded}
 use Rattle.rsx_serialized.proofs.Goes.{stopped_on}
+use Rattle.rsx_serialized.proofs.Known.{known_on, publishes_known, publishes_subscribed, told_known, told_subscribed}
 use Rattle.rsx_serialized.proofs.Steps.{publishes_asked, publishes_elsewhere, publishes_given, publishes_here, publishes_stopped, told, told_asked, told_given, told_others, told_published, told_stopped, told_stops}
 
 -- ---- taps
@@ -64,14 +65,45 @@ module _ {T : Type 0} where
     pub given : given_in k fs ≡ []
 
   pub silent : (at : ℕ) (fs : List (Event T)) (more : List (SubId × Signal T)) (os : List (ToTap T)) (ts : List (Tap T)) → AllTapsLeft at fs more os ts → (k : ℕ) → Silent k fs
-  silent at fs more [] ts h k = record { published = ap (published_in k) h.0; given = ap (given_in k) h.0 }
-  silent at fs more (o ∷ os) [] h k = absurd h
+  silent at fs more os [] h k = record { published = ap (published_in k) h.0; given = ap (given_in k) h.0 }
+  silent at fs more [] (t ∷ ts) h k = absurd h
   silent at fs more (o ∷ os) (t ∷ ts) h k =
       let x = h.0 in
       let n = silent (suc at) x.later x.others os ts h.1 k in record {
         published = ap (published_in k) x.told ∙ (flat_map-append (published_by k) (told x.sub x.items x.stopped) x.later ∙ (ap (λ l. l ++ published_in k x.later) (told_published T x.sub x.items x.stopped k) ∙ n.published));
         given = ap (given_in k) x.told ∙ (flat_map-append (given_by k) (told x.sub x.items x.stopped) x.later ∙ (ap (λ l. l ++ given_in k x.later) (told_given T x.sub x.items x.stopped k) ∙ n.given));
       }
+
+  -- it says of no subscription but of those that have a tap, and none was made
+  pub record Settled (n : ℕ) (fs : List (Event T)) : Type 0 where
+    pub known : AreKnown n fs
+    pub alone : subscribed_in fs ≡ []
+
+  settled_on : (n : ℕ) (es fs : List (Event T)) → AreKnown n es → subscribed_in es ≡ [] → Settled n fs → Settled n (es ++ fs)
+  settled_on n es fs known alone s =
+      let none : n + length (subscribed_in es) ≡ n = let z : length (subscribed_in es) ≡ 0 = ap length alone in omega (arith, z) in record {
+        known = known_on n es fs known (subst (λ (k : ℕ). AreKnown k fs) (sym none) s.known);
+        alone = flat_map-append subscribed_by es fs ∙ (ap (λ l. l ++ subscribed_in fs) alone ∙ s.alone);
+      }
+
+  settled_as : (n : ℕ) (es fs : List (Event T)) → fs ≡ es → Settled n es → Settled n fs
+  settled_as n es fs e s = subst (λ (l : List (Event T)). Settled n l) (sym e) s
+
+  pub settled_taps : (n at : ℕ) (fs : List (Event T)) (more : List (SubId × Signal T)) (os : List (ToTap T)) (ts : List (Tap T)) → at + length ts ≤ n → AllTapsLeft at fs more os ts → Settled n fs
+  settled_taps n at fs more os [] le h = settled_as n [] fs h.0 (record { known = tt; alone = refl })
+  settled_taps n at fs more [] (t ∷ ts) le h = absurd h
+  settled_taps n at fs more (o ∷ os) (t ∷ ts) le h =
+      let x = h.0 in
+      let is = x.is in
+      let rest = settled_taps n (suc at) x.later x.others os ts (omega (arith, le)) h.1 in
+      settled_as n _ fs x.told (settled_on n (told x.sub x.items x.stopped) x.later (told_known T n x.sub x.items x.stopped (omega (arith, le, is))) (told_subscribed T x.sub x.items x.stopped) rest)
+
+  pub settled_emitters : (n : ℕ) (gs : List (Event T)) (more : List (HubId × Signal T)) (is : List (FromEmitter T)) (es : List (Emitter T)) → AllEmittersLeft gs more is es → Settled n gs
+  settled_emitters n gs more [] es h = settled_as n [] gs h.0 (record { known = tt; alone = refl })
+  settled_emitters n gs more (i ∷ is) [] h = absurd h
+  settled_emitters n gs more (i ∷ is) (e ∷ es) h =
+      let x = h.0 in
+      settled_as n _ gs x.told (settled_on n (publishes i.hub x.taken) x.later (publishes_known n i.hub x.taken) (publishes_subscribed i.hub x.taken) (settled_emitters n x.later x.others is es h.1))
 
   -- what one tap left, for another subscription
   before : (at k : ℕ) (fs : List (Event T)) (more : List (SubId × Signal T)) (o : ToTap T) (t : Tap T) → (x : TapLeft at fs more o t) → (k ≡ at → ⊥) →
@@ -85,8 +117,8 @@ module _ {T : Type 0} where
       )
 
   aside : (at : ℕ) (fs : List (Event T)) (more : List (SubId × Signal T)) (os : List (ToTap T)) (ts : List (Tap T)) → AllTapsLeft at fs more os ts → (k : ℕ) → k < at → Aside k fs more
-  aside at fs more [] ts h k lt = record { asked = λ a. ap (asked_in k a) h.0; stopped = ap (stopped_in k) h.0; signals = ap (signals_for k) h.1 }
-  aside at fs more (o ∷ os) [] h k lt = absurd h
+  aside at fs more os [] h k lt = record { asked = λ a. ap (asked_in k a) h.0; stopped = ap (stopped_in k) h.0; signals = ap (signals_for k) h.1 }
+  aside at fs more [] (t ∷ ts) h k lt = absurd h
   aside at fs more (o ∷ os) (t ∷ ts) h k lt =
       let x = h.0 in
       let b = before at k fs more o t x (λ e. omega (arith, e)) in
@@ -134,8 +166,8 @@ module _ {T : Type 0} where
 
   -- that of the one at this place
   pub tap_found : (at : ℕ) (fs : List (Event T)) (more : List (SubId × Signal T)) (os : List (ToTap T)) (ts : List (Tap T)) → AllTapsLeft at fs more os ts → (k n : ℕ) → n ≡ at + k → (o : ToTap T) (t : Tap T) → slice_get os k ≡ Some o → slice_get ts k ≡ Some t → TapFound n fs more o t
-  tap_found at fs more [] ts h k n is o t e f = cc
-  tap_found at fs more (a ∷ os) [] h k n is o t e f = absurd h
+  tap_found at fs more os [] h k n is o t e f = cc
+  tap_found at fs more [] (c ∷ ts) h k n is o t e f = absurd h
   tap_found at fs more (a ∷ os) (c ∷ ts) h zero n is o t e f = here at fs more a os c ts h n (omega (arith, is)) o t (same_some a o e) (same_some c t f)
   tap_found at fs more (a ∷ os) (c ∷ ts) h (suc k) n is o t e f =
       behind at fs more a c h.0 n (λ y. omega (arith, is, y)) o t (tap_found (suc at) h.0.later h.0.others os ts h.1 k n (omega (arith, is)) o t e f)

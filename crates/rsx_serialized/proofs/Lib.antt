@@ -5,14 +5,17 @@ pub mod Drives
 pub mod Gates
 pub mod Goes
 pub mod Known
+pub mod Late
 pub mod Left
 pub mod Lists
 pub mod Numbers
 pub mod Opens
+pub mod Passing
 pub mod Regions
 pub mod Resting
 pub mod Rounds
 pub mod Since
 pub mod Starts
 pub mod Steps
+pub mod Subscribes
 pub mod Telling

@@ -2,7 +2,7 @@
 use Rattle.std.proofs.Common.{◌≡◌, ◌⊎◌, inl, inr, ℕ, zero, suc, ◌<◌, List, [], ◌∷◌, ◌++◌, append_assoc, length, length-append, refl, ap, sym, ◌∙◌, arith, subst, Some, slice_get, slice_set}
 use Rattle.std.proofs.lemmas.List.{length-set}
 use Rattle.std.proofs.lemmas.Option.{slice_get_within}
-use Rattle.rsx_serialized.specs.Ends.{Beside}
+use Rattle.rsx_serialized.specs.Ends.{Beside, BesideFew}
 
 -- what stands in the list where one element was set
 pub set_cases : {X : Type 0} (xs : List X) (i k : ℕ) (y z : X) → slice_get (slice_set xs i y) k ≡ Some z → ((k ≡ i) × (z ≡ y)) ⊎ ((k ≡ i → ⊥) × (slice_get xs k ≡ Some z))
@@ -82,5 +82,62 @@ beside_push {X} {Y} P xs ys x y h p =
           | inl v ↦ let within = slice_get_within ys k b v in let at = u.0 in absurd (omega (arith, within, at, long))
           | inr v ↦ subst (λ j. P j a b) (sym u.0) (subst (λ (c : X). P (length xs) c b) (sym u.1) (subst (λ (c : Y). P (length xs) x c) (sym v.1) h))
         ]
+      ];
+    }
+
+-- what stands in a list stands there with one element more, too
+pub get_before : {X : Type 0} (xs : List X) (y : X) (k : ℕ) (z : X) → slice_get xs k ≡ Some z → slice_get (xs ++ y ∷ []) k ≡ Some z
+get_before [] y k z e = cc
+get_before (x ∷ xs) y zero z e = e
+get_before (x ∷ xs) y (suc k) z e = get_before xs y k z e
+
+-- the element more
+pub get_last : {X : Type 0} (xs : List X) (y : X) (k : ℕ) → k ≡ length xs → slice_get (xs ++ y ∷ []) k ≡ Some y
+get_last [] y zero e = refl
+get_last [] y (suc k) e = absurd (omega (arith, e))
+get_last (x ∷ xs) y zero e = absurd (omega (arith, e))
+get_last (x ∷ xs) y (suc k) e = get_last xs y k (omega (arith, e))
+
+-- two lists of which the second has no more: they have as many, one element is set, the first has one more
+pub few_of : {X Y : Type 0} (P : ℕ → X → Y → Type 0) (xs : List X) (ys : List Y) → Beside P xs ys → BesideFew P xs ys
+few_of P xs ys h = let long = h.count in record { few = omega (arith, long); each = h.each }
+
+pub few_set : {X Y : Type 0} (P : ℕ → X → Y → Type 0) (xs : List X) (ys : List Y) (i : ℕ) (w : Y) → ((x : X) → slice_get xs i ≡ Some x → P i x w) → BesideFew P xs ys → BesideFew P xs (slice_set ys i w)
+few_set {X} {Y} P xs ys i w here p =
+    let long = length-set ys i w in
+    let few = p.few in record {
+      few = omega (arith, long, few);
+      each = λ k x y a b. elim (set_cases ys i k w y b) [
+        | inl h ↦
+            let e : i ≡ k = sym h.0 in
+            let at : slice_get xs i ≡ Some x = ap (slice_get xs) e ∙ a in
+            subst (λ j. P j x y) e (subst (λ (z : Y). P i x z) (sym h.1) (here x at))
+        | inr h ↦ p.each k x y a h.1
+      ];
+    }
+
+pub few_more : {X Y : Type 0} (P : ℕ → X → Y → Type 0) (xs : List X) (ys : List Y) (x : X) → BesideFew P xs ys → BesideFew P (xs ++ x ∷ []) ys
+few_more P xs ys x p =
+    let n = length-append xs (x ∷ []) in
+    let few = p.few in record {
+      few = omega (arith, n, few);
+      each = λ k a y u v. elim (get_behind xs x k a u) [
+        | inl h ↦ p.each k a y h v
+        | inr h ↦ let within = slice_get_within ys k y v in let at = h.0 in absurd (omega (arith, within, at, few))
+      ];
+    }
+
+-- the second has one more
+pub few_push : {X Y : Type 0} (P : ℕ → X → Y → Type 0) (xs : List X) (ys : List Y) (x : X) (y : Y) → slice_get xs (length ys) ≡ Some x → P (length ys) x y → BesideFew P xs ys → BesideFew P xs (ys ++ y ∷ [])
+few_push {X} {Y} P xs ys x y at h p =
+    let within = slice_get_within xs (length ys) x at in
+    let n = length-append ys (y ∷ []) in record {
+      few = omega (arith, within, n);
+      each = λ k a b u v. elim (get_behind ys y k b v) [
+        | inl w ↦ p.each k a b u w
+        | inr w ↦
+            let here : slice_get xs k ≡ Some x = ap (slice_get xs) w.0 ∙ at in
+            let same : x ≡ a = cc in
+            subst (λ j. P j a b) (sym w.0) (subst (λ (c : X). P (length ys) c b) same (subst (λ (c : Y). P (length ys) x c) (sym w.1) h))
       ];
     }

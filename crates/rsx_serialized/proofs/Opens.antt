@@ -1,5 +1,5 @@
 -- The ends of a link that was opened.
-use Rattle.std.proofs.Common.{◌≡◌, ℕ, ◌+◌, ◌≤◌, min, Bool, ◌||◌, [], ◌∷◌, refl, ap, sym, ◌∙◌, subst, arith, None}
+use Rattle.std.proofs.Common.{◌≡◌, inl, ℕ, ◌+◌, ◌≤◌, min, Bool, ◌||◌, [], ◌∷◌, refl, ap, sym, ◌∙◌, subst, arith, None}
 use Rattle.rsx_demand.specs.declared.TheConstants.{UNBOUNDED}
 use Rattle.rsx_types.specs.declared.limits.TheConstants.{CAPACITY}
 use Rattle.rsx_types.specs.declared.names.HubId.{HubId}
@@ -23,6 +23,9 @@ carried_on c i n m e f g = omega arith
 within : (n : ℕ) → n ≤ UNBOUNDED → n ≡ min UNBOUNDED n
 within n le = omega arith
 
+all_passed : (n m : ℕ) → n ≡ m → n ≤ m
+all_passed n m e = omega arith
+
 module _ {T : Type 0} where
   pub emitter_link : (hub : HubId) (room number accepted carried : ℕ) (over : Bool) (l : Link T) (u : Up T) (d : Down T) (c : CancelSeat) (e : Emitter T) → carried ≡ min UNBOUNDED accepted → room ≡ CAPACITY → AreOpened room UNBOUNDED carried l u d c → (e.hub ≡ hub) × (e.link ≡ number) × (e.up ≡ u) × (e.ended ≡ over) →
       IsEmitterLink hub number accepted over (record { link = l; emitter = e; inlet = record { hub = hub; down = d; waiting = None; seat = c } })
@@ -43,13 +46,14 @@ module _ {T : Type 0} where
       IsTapLink sub number total is_open (record { link = l; tap = t; outlet = record { up = u; asked = total } })
   tap_link sub room number total carried is_open l u d c t most big o n state nothing =
       let C : CancelSeat → Type 0 = λ x. (cancel_parts x ≡ 0 ∷ []) × (cancel_steps x ≡ []) × (cancel_beside x ≡ []) in
+      let all : total ≡ min UNBOUNDED (seen_total u) = within total most ∙ ap (λ ss. min UNBOUNDED (seen_of ss)) (sym o.up.1) in
       record {
         names = (n.0, n.1);
         takes = ((subst (λ (x : Down T). IsDownOf l x) (sym n.2) o.down.0, subst (λ (x : CancelSeat). IsCancelSeatOf l x) (sym n.3) o.cancel.0), nothing, state);
         asked = (ap (λ (x : Down T). asked_total x) n.2 ∙ ap asked_of o.down.1, refl);
         seat = subst C (sym n.3) (o.cancel.3, o.cancel.1, o.cancel.2);
         sends = (o.up.0, o.up.3);
-        passed = (within total most ∙ ap (λ ss. min UNBOUNDED (seen_of ss)) (sym o.up.1), ap (λ ss. has_cancel (flags_of ss) || has_refusal (flags_of ss)) o.up.1);
+        passed = (record { most = all_passed total (min UNBOUNDED (seen_total u)) all; rest = inl all }, ap (λ ss. has_cancel (flags_of ss) || has_refusal (flags_of ss)) o.up.1);
         carried = ap (λ (x : Down T). carried_down x) n.2 ∙ (o.down.2 ∙ sym o.up.2);
         room = o.holds ∙ big;
       }

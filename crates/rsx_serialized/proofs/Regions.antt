@@ -2,7 +2,7 @@
 use Rattle.std.proofs.Common.{◌≡◌, inl, inr, ℕ, ◌+◌, ◌≤◌, ◌<◌, Bool, true, false, ◌||◌, List, [], ◌∷◌, ◌++◌, map, length, refl, ap, sym, ◌∙◌, subst, arith, min, get_or, Result, Some, slice_get, slice_set}
 use Rattle.std.proofs.lemmas.Grind.{flat_map-append}
 use Rattle.std.proofs.lemmas.Option.{slice_get_read}
-use Rattle.std.proofs.lemmas.List.{append-nil, length-set}
+use Rattle.std.proofs.lemmas.List.{append-nil}
 use Rattle.rsx_demand.specs.declared.TheConstants.{UNBOUNDED}
 use Rattle.rsx_types.specs.declared.names.HubId.{HubId}
 use Rattle.rsx_types.specs.declared.names.SubId.{SubId}
@@ -18,25 +18,37 @@ use Rattle.rsx_link.specs.Ends.{IsCancelSeatOf, IsDownOf, IsUpOf, carried_up, re
 use Rattle.rsx_link.specs.Steps.{flags_of, has_cancel, has_refusal, seen_of}
 use Rattle.rsx_link.specs.declared.cancel.CancelSeat.{CancelSeat}
 use Rattle.rsx_link.specs.declared.link.Link.{Link}
+use Rattle.rsx_runtime.specs.declared.tap.Tap.{Tap}
 use Rattle.rsx_subscriber.specs.Delivered.{Delivered}
 use Rattle.rsx_serialized.specs.Ends.{Beside, InletGoes, IsPassedOn, OutletGoes, held, is_flagged}
-use Rattle.rsx_serialized.specs.Events.{Event, asked_in, given_in, moved, published_in, signal_for, signals_for, stopped_in}
-use Rattle.rsx_serialized.specs.Regions.{AreEndsOf, AreFor, AreInletsOf, AreOutletsOf, Goes, GoesBy, GoesOn, OutletsGo, StandsSince, TakesIn}
+use Rattle.rsx_serialized.specs.Events.{AreFor, AreKnown, Event, asked_in, given_in, moved, published_in, signal_for, signals_for, stopped_in, subscribed_in}
+use Rattle.rsx_serialized.specs.Regions.{AreEndsOf, AreInletsOf, AreOutletsOf, AreSpare, Goes, GoesBy, GoesOn, OutletsGo, StandsSince, TakesIn}
 use Rattle.rsx_serialized.specs.Sending.{IsFirstFor, IsOffered, SendsFirst}
 use Rattle.rsx_serialized.specs.Told.{publishes}
 use Rattle.rsx_serialized.specs.declared.ends.FromEmitter.{FromEmitter}
 use Rattle.rsx_serialized.specs.declared.ends.ToTap.{ToTap}
 use Rattle.rsx_serialized.specs.declared.region.GraphRegion.{GraphRegion}
 use Rattle.rsx_serialized.specs.declared.region.Links.{Links}
-use Rattle.rsx_serialized.proofs.Known.{as_many, for_all, moves_for}
+use Rattle.rsx_serialized.proofs.Known.{as_many, for_all, moves_for, moves_known, moves_subscribed, publishes_known, publishes_subscribed, told_known, told_subscribed}
 use Rattle.rsx_serialized.proofs.Lists.{beside_same, beside_set, set_cases}
 use Rattle.rsx_serialized.proofs.Steps.{moves_after, moves_asked, moves_given, moves_published, moves_stopped, publishes_asked, publishes_elsewhere, publishes_given, publishes_here, publishes_stopped, sent_elsewhere, sent_here, told, told_asked, told_given, told_others, told_published, told_stopped}
 
+within_links : (at n m links outlets : ℕ) → at < n → n + m ≡ links → outlets ≡ links → at < outlets
+within_links at n m links outlets lt e f = omega arith
+
 module _ {T : Type 0} where
+  -- the spare taps are those of as many subscriptions
+  pub spare_as : (ls : List (Link T)) (n m : ℕ) (ts us : List (Tap T)) → m ≡ n → us ≡ ts → AreSpare ls n ts → AreSpare ls m us
+  spare_as ls n m ts us e f h = subst (λ (k : ℕ). AreSpare ls k us) (sym e) (subst (λ (l : List (Tap T)). AreSpare ls n l) (sym f) h)
+
+  -- no subscription was made
+  none_new : (n m : ℕ) (es : List (Event T)) → m ≡ n → subscribed_in es ≡ [] → m ≡ n + length (subscribed_in es)
+  none_new n m es e f = let none : length (subscribed_in es) ≡ 0 = ap length f in omega (arith, e, none)
+
   -- ---- one end
 
   -- an end to which nothing happened
-  outlet_still : (k : ℕ) (es : List (Event T)) (before after : List (SubId × Signal T)) (a : ToTap T) → signals_for k before ++ given_in k es ≡ signals_for k after → asked_in k a.asked es ≡ a.asked → (stopped_in k es ≡ true → ⊥) → OutletGoes k es before after a a
+  pub outlet_still : (k : ℕ) (es : List (Event T)) (before after : List (SubId × Signal T)) (a : ToTap T) → signals_for k before ++ given_in k es ≡ signals_for k after → asked_in k a.asked es ≡ a.asked → (stopped_in k es ≡ true → ⊥) → OutletGoes k es before after a a
   outlet_still k es before after a d n s = record {
     carried = refl;
     sent = [];
@@ -47,7 +59,7 @@ module _ {T : Type 0} where
     stopped = λ h. absurd (s h);
   }
 
-  inlet_still : (es : List (Event T)) (a : FromEmitter T) → published_in a.hub.0 es ≡ [] → InletGoes es a a
+  pub inlet_still : (es : List (Event T)) (a : FromEmitter T) → published_in a.hub.0 es ≡ [] → InletGoes es a a
   inlet_still es a none = record {
     hub = refl;
     came = [];
@@ -110,19 +122,26 @@ module _ {T : Type 0} where
   pump_inlets es is none = beside_same (λ k. InletGoes es) is (λ k a e. inlet_still es a (none a.hub.0))
 
 module _ {O T : Type 0} {b : Ops O T} where
+  -- each subscription has an end
+  pub outlet_within : (links : Links T) (r : GraphRegion O T b) (at : ℕ) → AreEndsOf links r → at < length (state_of r.graph).joins → at < length r.outlets.items
+  outlet_within links r at ends lt = within_links at (length (state_of r.graph).joins) (length r.spare.items) (length links.taps.items) (length r.outlets.items) lt ends.spare.count ends.outlets.count
+
   -- a step that changes one end that sends
   outlet_goes : (links : Links T) (es : List (Event T)) (r s : GraphRegion O T b) (at : ℕ) (o p : ToTap T) → AreEndsOf links r → s.graph.ops ≡ r.graph.ops → (state_of s.graph).joins ≡ (state_of r.graph).joins → StandsSince (b.meaning r.graph.ops) es (state_of r.graph) (state_of s.graph) →
       s.inlets.items ≡ r.inlets.items → s.outlets.items ≡ slice_set r.outlets.items at p → slice_get r.outlets.items at ≡ Some o → ((l : Link T) → slice_get links.taps.items at ≡ Some l → IsUpOf l p.up × IsPassedOn p) →
-      ((k : ℕ) → published_in k es ≡ []) → OutletGoes at es r.pending.items s.pending.items o p → ((k : ℕ) (a : ToTap T) → (k ≡ at → ⊥) → slice_get r.outlets.items k ≡ Some a → OutletGoes k es r.pending.items s.pending.items a a) → ((n : ℕ) → AreFor n r.pending.items → AreFor n s.pending.items) → AreEndsOf links s × GoesBy (b.meaning r.graph.ops) es r s
-  outlet_goes links es r s at o p ends ops joins stands ins outs there up none here others known = (
+      ((k : ℕ) → published_in k es ≡ []) → OutletGoes at es r.pending.items s.pending.items o p → ((k : ℕ) (a : ToTap T) → (k ≡ at → ⊥) → slice_get r.outlets.items k ≡ Some a → OutletGoes k es r.pending.items s.pending.items a a) → ((n : ℕ) → AreFor n r.pending.items → AreFor n s.pending.items) →
+      s.spare.items ≡ r.spare.items → subscribed_in es ≡ [] → AreKnown (length (state_of r.graph).joins) es → AreEndsOf links s × GoesBy (b.meaning r.graph.ops) es r s
+  outlet_goes links es r s at o p ends ops joins stands ins outs there up none here others known spare alone knows = (
     record {
       inlets = subst (λ (l : List (FromEmitter T)). AreInletsOf links.emitters.items l) (sym ins) ends.inlets;
       outlets = subst (λ (l : List (ToTap T)). AreOutletsOf links.taps.items l) (sym outs) (outlets_of_set links.taps.items r.outlets.items at p up ends.outlets);
-      subs = ap length outs ∙ (length-set r.outlets.items at p ∙ (ends.subs ∙ ap length (sym joins)));
+      spare = spare_as links.taps.items (length (state_of r.graph).joins) (length (state_of s.graph).joins) r.spare.items s.spare.items (ap length joins) spare ends.spare;
     },
     record {
       ops = ops;
       stands = stands;
+      subs = none_new (length (state_of r.graph).joins) (length (state_of s.graph).joins) es (ap length joins) alone;
+      events = knows;
       inlets = subst (λ (l : List (FromEmitter T)). Beside (λ k. InletGoes es) r.inlets.items l) (sym ins) (pump_inlets es r.inlets.items none);
       outlets = subst (λ (l : List (ToTap T)). OutletsGo es r.pending.items s.pending.items r.outlets.items l) (sym outs) (outlets_set es r.pending.items s.pending.items r.outlets.items at o p there here others);
       known = λ h. subst (λ (n : ℕ). AreFor n s.pending.items) (ap length (sym joins)) (known (length (state_of r.graph).joins) h);
@@ -131,16 +150,18 @@ module _ {O T : Type 0} {b : Ops O T} where
 
   outlet_step : (links : Links T) (es : List (Event T)) (r s : GraphRegion O T b) (at : ℕ) (o p : ToTap T) → AreEndsOf links r → s.graph.ops ≡ r.graph.ops → (state_of s.graph).joins ≡ (state_of r.graph).joins → StandsSince (b.meaning r.graph.ops) es (state_of r.graph) (state_of s.graph) →
       s.inlets.items ≡ r.inlets.items → s.outlets.items ≡ slice_set r.outlets.items at p → slice_get r.outlets.items at ≡ Some o → ((l : Link T) → slice_get links.taps.items at ≡ Some l → IsUpOf l p.up × IsPassedOn p) →
-      ((k : ℕ) → published_in k es ≡ []) → OutletGoes at es r.pending.items s.pending.items o p → ((k : ℕ) (a : ToTap T) → (k ≡ at → ⊥) → slice_get r.outlets.items k ≡ Some a → OutletGoes k es r.pending.items s.pending.items a a) → ((n : ℕ) → AreFor n r.pending.items → AreFor n s.pending.items) → GoesOn links r s
-  outlet_step links es r s at o p ends ops joins stands ins outs there up none here others known =
-      let h = outlet_goes links es r s at o p ends ops joins stands ins outs there up none here others known in
+      ((k : ℕ) → published_in k es ≡ []) → OutletGoes at es r.pending.items s.pending.items o p → ((k : ℕ) (a : ToTap T) → (k ≡ at → ⊥) → slice_get r.outlets.items k ≡ Some a → OutletGoes k es r.pending.items s.pending.items a a) → ((n : ℕ) → AreFor n r.pending.items → AreFor n s.pending.items) →
+      s.spare.items ≡ r.spare.items → subscribed_in es ≡ [] → AreKnown (length (state_of r.graph).joins) es → GoesOn links r s
+  outlet_step links es r s at o p ends ops joins stands ins outs there up none here others known spare alone knows =
+      let h = outlet_goes links es r s at o p ends ops joins stands ins outs there up none here others known spare alone knows in
       (h.0, (es, h.1))
 
   -- a tap was looked at, and the graph was told of it
   pub look_step : (links : Links T) (r s : GraphRegion O T b) (at n : ℕ) (flag : Bool) (i : SubId) (o p : ToTap T) → AreEndsOf links r → s.graph.ops ≡ r.graph.ops → (state_of s.graph).joins ≡ (state_of r.graph).joins → StandsSince (b.meaning r.graph.ops) (told i n flag) (state_of r.graph) (state_of s.graph) →
       s.inlets.items ≡ r.inlets.items → s.outlets.items ≡ slice_set r.outlets.items at p → s.pending.items ≡ r.pending.items → slice_get r.outlets.items at ≡ Some o → ((l : Link T) → slice_get links.taps.items at ≡ Some l → IsUpOf l p.up × IsPassedOn p) →
-      i.0 ≡ at → p.asked ≡ o.asked + n → p.asked ≤ UNBOUNDED → flag ≡ is_flagged p.up → (is_flagged o.up ≡ true → is_flagged p.up ≡ true) → sent_signals p.up ≡ sent_signals o.up → carried_up p.up ≡ carried_up o.up → AreEndsOf links s × GoesBy (b.meaning r.graph.ops) (told i n flag) r s
-  look_step links r s at n flag i o p ends ops joins stands ins outs waits there up is asked most stopped stays sent carried =
+      i.0 ≡ at → p.asked ≡ o.asked + n → p.asked ≤ UNBOUNDED → flag ≡ is_flagged p.up → (is_flagged o.up ≡ true → is_flagged p.up ≡ true) → sent_signals p.up ≡ sent_signals o.up → carried_up p.up ≡ carried_up o.up →
+      s.spare.items ≡ r.spare.items → at < length (state_of r.graph).joins → AreEndsOf links s × GoesBy (b.meaning r.graph.ops) (told i n flag) r s
+  look_step links r s at n flag i o p ends ops joins stands ins outs waits there up is asked most stopped stays sent carried spare lt =
       let es : List (Event T) = told i n flag in
       let most' : o.asked + n ≤ UNBOUNDED = subst (λ (x : ℕ). x ≤ UNBOUNDED) asked most in
       let got : (k : ℕ) → signals_for k r.pending.items ++ given_in k es ≡ signals_for k s.pending.items = λ k. ap (λ l. signals_for k r.pending.items ++ l) (told_given T i n flag k) ∙ (append-nil (signals_for k r.pending.items) ∙ ap (signals_for k) (sym waits)) in
@@ -157,11 +178,12 @@ module _ {O T : Type 0} {b : Ops O T} where
       })
       (λ k a apart e. outlet_still k es r.pending.items s.pending.items a (got k) (told_others T i n flag k a.asked (λ h. apart (sym h ∙ is))) (λ h. apart (sym (told_stopped T i n flag k h).0 ∙ is)))
       (λ k h. subst (λ (l : List (SubId × Signal T)). AreFor k l) (sym waits) h)
+      spare (told_subscribed T i n flag) (told_known T (length (state_of r.graph).joins) i n flag (subst (λ (k : ℕ). k < length (state_of r.graph).joins) (sym is) lt))
 
   -- an end that sends was asked whether it has room
   pub room_step : (links : Links T) (r s : GraphRegion O T b) (at : ℕ) (o p : ToTap T) → AreEndsOf links r → s.graph ≡ r.graph → s.inlets.items ≡ r.inlets.items → s.outlets.items ≡ slice_set r.outlets.items at p → s.pending.items ≡ r.pending.items → slice_get r.outlets.items at ≡ Some o → ((l : Link T) → slice_get links.taps.items at ≡ Some l → IsUpOf l p.up × IsPassedOn p) →
-      p.asked ≡ o.asked → up_steps p.up ≡ up_steps o.up → sent_signals p.up ≡ sent_signals o.up → carried_up p.up ≡ carried_up o.up → GoesOn links r s
-  room_step links r s at o p ends graph ins outs waits there up asked steps sent carried =
+      p.asked ≡ o.asked → up_steps p.up ≡ up_steps o.up → sent_signals p.up ≡ sent_signals o.up → carried_up p.up ≡ carried_up o.up → s.spare.items ≡ r.spare.items → GoesOn links r s
+  room_step links r s at o p ends graph ins outs waits there up asked steps sent carried spare =
       let m = b.meaning r.graph.ops in
       let got : (k : ℕ) → signals_for k r.pending.items ++ [] ≡ signals_for k s.pending.items = λ k. append-nil (signals_for k r.pending.items) ∙ ap (signals_for k) (sym waits) in
       outlet_step links [] r s at o p ends (ap (λ (g : Graph O T b). g.ops) graph) (ap (λ (g : Graph O T b). (state_of g).joins) graph) (λ h k. subst (λ (g : Graph O T b). GraphStands m (state_of g) h) (sym graph) k) ins outs there up (λ k. refl)
@@ -176,11 +198,12 @@ module _ {O T : Type 0} {b : Ops O T} where
       })
       (λ k a apart e. outlet_still k [] r.pending.items s.pending.items a (got k) refl (λ h. cc))
       (λ k h. subst (λ (l : List (SubId × Signal T)). AreFor k l) (sym waits) h)
+      spare refl tt
 
   -- the signal in front was sent to its tap
   pub send_step : (links : Links T) (r s : GraphRegion O T b) (at : ℕ) (d : SubId × Signal T) (o p : ToTap T) → AreEndsOf links r → s.graph ≡ r.graph → s.inlets.items ≡ r.inlets.items → s.outlets.items ≡ slice_set r.outlets.items at p → r.pending.items ≡ d ∷ s.pending.items → slice_get r.outlets.items at ≡ Some o → ((l : Link T) → slice_get links.taps.items at ≡ Some l → IsUpOf l p.up × IsPassedOn p) →
-      d.0.0 ≡ at → p.asked ≡ o.asked → up_steps p.up ≡ up_steps o.up → sent_signals p.up ≡ sent_signals o.up ++ d.1 ∷ [] → carried_up p.up ≡ carried_up o.up → GoesOn links r s
-  send_step links r s at d o p ends graph ins outs waits there up is asked steps sent carried =
+      d.0.0 ≡ at → p.asked ≡ o.asked → up_steps p.up ≡ up_steps o.up → sent_signals p.up ≡ sent_signals o.up ++ d.1 ∷ [] → carried_up p.up ≡ carried_up o.up → s.spare.items ≡ r.spare.items → GoesOn links r s
+  send_step links r s at d o p ends graph ins outs waits there up is asked steps sent carried spare =
       let m = b.meaning r.graph.ops in
       outlet_step links [] r s at o p ends (ap (λ (g : Graph O T b). g.ops) graph) (ap (λ (g : Graph O T b). (state_of g).joins) graph) (λ h k. subst (λ (g : Graph O T b). GraphStands m (state_of g) h) (sym graph) k) ins outs there up (λ k. refl)
       (record {
@@ -194,11 +217,12 @@ module _ {O T : Type 0} {b : Ops O T} where
       })
       (λ k a apart e. outlet_still k [] r.pending.items s.pending.items a (append-nil (signals_for k r.pending.items) ∙ (ap (signals_for k) waits ∙ sent_elsewhere d s.pending.items k (λ h. apart (sym h ∙ is)))) refl (λ h. cc))
       (λ k h. (subst (λ (l : List (SubId × Signal T)). AreFor k l) waits h).1)
+      spare refl tt
 
   -- what came of an emitter was published
   pub take_step : (links : Links T) (r s : GraphRegion O T b) (at : ℕ) (taken : Bool) (i j : FromEmitter T) → AreEndsOf links r → s.graph.ops ≡ r.graph.ops → (state_of s.graph).joins ≡ (state_of r.graph).joins → (t : TakesIn taken (b.meaning r.graph.ops) (state_of r.graph) i (state_of s.graph) j) →
-      s.outlets.items ≡ r.outlets.items → s.pending.items ≡ r.pending.items → s.inlets.items ≡ slice_set r.inlets.items at j → slice_get r.inlets.items at ≡ Some i → ((l : Link T) → slice_get links.emitters.items at ≡ Some l → IsDownOf l j.down) → AreEndsOf links s × GoesBy (b.meaning r.graph.ops) (publishes i.hub t.signals) r s
-  take_step links r s at taken i j ends ops joins t outs waits ins there down =
+      s.outlets.items ≡ r.outlets.items → s.pending.items ≡ r.pending.items → s.inlets.items ≡ slice_set r.inlets.items at j → slice_get r.inlets.items at ≡ Some i → ((l : Link T) → slice_get links.emitters.items at ≡ Some l → IsDownOf l j.down) → s.spare.items ≡ r.spare.items → AreEndsOf links s × GoesBy (b.meaning r.graph.ops) (publishes i.hub t.signals) r s
+  take_step links r s at taken i j ends ops joins t outs waits ins there down spare =
       let es : List (Event T) = publishes i.hub t.signals in
       let P : ℕ → Link T → FromEmitter T → Type 0 = λ k l a. IsDownOf l a.down × IsCancelSeatOf l a.seat in
       let end : (l : Link T) → slice_get links.emitters.items at ≡ Some l → P at l j = λ l e. (down l e, subst (λ (c : CancelSeat). IsCancelSeatOf l c) (sym t.seat) (ends.inlets.ends.each at l i e there).1) in
@@ -217,11 +241,13 @@ module _ {O T : Type 0} {b : Ops O T} where
             apart = λ x y a c e f same. ends.inlets.apart x y (was x a e).0 (was y c f).0 (was x a e).1 (was y c f).1 ((was x a e).2 ∙ (same ∙ sym (was y c f).2));
           };
           outlets = subst (λ (l : List (ToTap T)). AreOutletsOf links.taps.items l) (sym outs) ends.outlets;
-          subs = ap length outs ∙ (ends.subs ∙ ap length (sym joins));
+          spare = spare_as links.taps.items (length (state_of r.graph).joins) (length (state_of s.graph).joins) r.spare.items s.spare.items (ap length joins) spare ends.spare;
         },
         record {
           ops = ops;
           stands = t.stands;
+          subs = none_new (length (state_of r.graph).joins) (length (state_of s.graph).joins) es (ap length joins) (publishes_subscribed i.hub t.signals);
+          events = publishes_known (length (state_of r.graph).joins) i.hub t.signals;
           inlets = subst (λ (l : List (FromEmitter T)). Beside (λ k. InletGoes es) is l) (sym ins)
               (beside_set (λ k x y. x ≡ y) (λ k. InletGoes es) is is at j
               (λ x e. let same : i ≡ x = cc in subst (λ (a : FromEmitter T). InletGoes es a j) same here)
@@ -251,6 +277,8 @@ module _ {O T : Type 0} {b : Ops O T} where
       let got : (k : ℕ) → signals_for k r.pending.items ++ given_in k es ≡ signals_for k s.pending.items = λ k. ap (λ l. signals_for k r.pending.items ++ l) (moves_given m (state_of r.graph).rows (state_of s.graph).rows h.moves k h.lead) ∙ (sym (flat_map-append (signal_for k) r.pending.items (delivered_by h.moves)) ∙ ap (signals_for k) (sym all)) in record {
         ops = ops;
         stands = λ x k. subst (λ (y : History T). GraphStands m (state_of s.graph) y) (sym (moves_after x h.moves)) (h.stands x k);
+        subs = none_new (length (state_of r.graph).joins) (length (state_of s.graph).joins) es (ap length h.same.0) (moves_subscribed h.moves);
+        events = moves_known m (length (state_of r.graph).joins) (state_of r.graph).rows (state_of s.graph).rows h.moves (as_many r.graph) h.lead;
         inlets = subst (λ (l : List (FromEmitter T)). Beside (λ k. InletGoes es) r.inlets.items l) (ap (λ v. v.items) (sym ins)) (pump_inlets es r.inlets.items (λ k. moves_published h.moves k));
         outlets = subst (λ (l : List (ToTap T)). OutletsGo es r.pending.items s.pending.items r.outlets.items l) (ap (λ v. v.items) (sym outs))
             (beside_same (λ k. OutletGoes k es r.pending.items s.pending.items) r.outlets.items (λ k a e. outlet_still k es r.pending.items s.pending.items a (got k) (moves_asked h.moves k a.asked) (λ x. no_stop h.moves k x)));
@@ -261,23 +289,23 @@ module _ {O T : Type 0} {b : Ops O T} where
       no_stop ds k e = let none = moves_stopped ds k in let bad : true ≡ false = sym e ∙ none in cc
 
   -- moves leave the ends as they are
-  pub moves_on : (links : Links T) (r s : GraphRegion O T b) → AreEndsOf links r → Goes (b.meaning r.graph.ops) r s → s.inlets ≡ r.inlets → s.outlets ≡ r.outlets → (state_of s.graph).joins ≡ (state_of r.graph).joins → GoesOn links r s
-  moves_on links r s ends goes ins outs joins = (
+  pub moves_on : (links : Links T) (r s : GraphRegion O T b) → AreEndsOf links r → Goes (b.meaning r.graph.ops) r s → s.inlets ≡ r.inlets → s.outlets ≡ r.outlets → (state_of s.graph).joins ≡ (state_of r.graph).joins → s.spare ≡ r.spare → GoesOn links r s
+  moves_on links r s ends goes ins outs joins spare = (
     record {
       inlets = subst (λ (l : List (FromEmitter T)). AreInletsOf links.emitters.items l) (ap (λ v. v.items) (sym ins)) ends.inlets;
       outlets = subst (λ (l : List (ToTap T)). AreOutletsOf links.taps.items l) (ap (λ v. v.items) (sym outs)) ends.outlets;
-      subs = ap (λ v. length v.items) outs ∙ (ends.subs ∙ ap length (sym joins));
+      spare = spare_as links.taps.items (length (state_of r.graph).joins) (length (state_of s.graph).joins) r.spare.items s.spare.items (ap length joins) (ap (λ v. v.items) spare) ends.spare;
     },
     goes,
   )
 
   -- the signal in front was sent, or found no room
   pub sends_step : (links : Links T) (r s : GraphRegion O T b) (at : ℕ) (sent : Bool) (l : Link T) (o p : ToTap T) → AreEndsOf links r → at < length r.outlets.items → l ≡ get_or links.taps.items at l → o ≡ get_or r.outlets.items at o → s.graph ≡ r.graph → s.inlets.items ≡ r.inlets.items → s.outlets.items ≡ slice_set r.outlets.items at p →
-      IsFirstFor at r.pending.items → IsOffered l o p → SendsFirst sent r.pending.items s.pending.items o p → GoesOn links r s
-  sends_step links r s at false l o p ends lt link out graph ins outs first kept still =
-      let passed : IsPassedOn p = kept.asked ∙ ((outlet_there links.taps.items r.outlets.items at l o ends.outlets lt link out).1 ∙ ap (λ ss. min UNBOUNDED (seen_of ss)) (sym kept.steps)) in
-      room_step links r s at o p ends graph ins outs still.0 (outlet_at r.outlets.items at o lt out) (only_at links.taps.items r.outlets.items at l p ends.outlets lt link (kept.end, passed)) kept.asked kept.steps still.1 kept.carried
-  sends_step links r s at true l o p ends lt link out graph ins outs first kept (d, waits, sent) =
-      let passed : IsPassedOn p = kept.asked ∙ ((outlet_there links.taps.items r.outlets.items at l o ends.outlets lt link out).1 ∙ ap (λ ss. min UNBOUNDED (seen_of ss)) (sym kept.steps)) in
+      IsFirstFor at r.pending.items → IsOffered l o p → SendsFirst sent r.pending.items s.pending.items o p → s.spare.items ≡ r.spare.items → GoesOn links r s
+  sends_step links r s at false l o p ends lt link out graph ins outs first kept still spare =
+      let passed : IsPassedOn p = kept.passed (outlet_there links.taps.items r.outlets.items at l o ends.outlets lt link out).1 in
+      room_step links r s at o p ends graph ins outs still.0 (outlet_at r.outlets.items at o lt out) (only_at links.taps.items r.outlets.items at l p ends.outlets lt link (kept.end, passed)) kept.asked kept.steps still.1 kept.carried spare
+  sends_step links r s at true l o p ends lt link out graph ins outs first kept (d, waits, sent) spare =
+      let passed : IsPassedOn p = kept.passed (outlet_there links.taps.items r.outlets.items at l o ends.outlets lt link out).1 in
       let is : at ≡ d.0.0 = subst (λ ds. IsFirstFor at ds) waits first in
-      send_step links r s at d o p ends graph ins outs waits (outlet_at r.outlets.items at o lt out) (only_at links.taps.items r.outlets.items at l p ends.outlets lt link (kept.end, passed)) (sym is) kept.asked kept.steps sent kept.carried
+      send_step links r s at d o p ends graph ins outs waits (outlet_at r.outlets.items at o lt out) (only_at links.taps.items r.outlets.items at l p ends.outlets lt link (kept.end, passed)) (sym is) kept.asked kept.steps sent kept.carried spare

@@ -19,7 +19,7 @@ use Rattle.rsx_subscriber.specs.Delivered.{Delivered}
 use Rattle.rsx_serialized.specs.Ends.{is_flagged}
 use Rattle.rsx_serialized.specs.Events.{Event, stopped_in}
 use Rattle.rsx_serialized.specs.Regions.{AreEndsOf, Goes, GoesBy}
-use Rattle.rsx_serialized.specs.Resting.{AreHeldUp, AreStill, FindsNoRoom, HasLeftAll, HasLeftBefore, HasLeftOne, HasNoRoom, HasSeenAll, HasSeenBefore, HasSeenOne, HasSentNone, IsAtRest, IsLeft, IsLook, IsOneSeen, IsQuiet, IsSeen, IsTakenIn}
+use Rattle.rsx_serialized.specs.Resting.{AreHeldUp, AreSeen, AreSeenBefore, AreStill, FindsNoRoom, HasLeftAll, HasLeftBefore, HasLeftOne, HasNoRoom, HasSeenAll, HasSeenBefore, HasSeenOne, HasSentNone, IsAtRest, IsLeft, IsLook, IsOneSeen, IsQuiet, IsSeen, IsTakenIn}
 use Rattle.rsx_serialized.specs.Sending.{IsFirstFor, SendsFirst}
 use Rattle.rsx_serialized.specs.declared.ends.FromEmitter.{FromEmitter}
 use Rattle.rsx_serialized.specs.declared.ends.ToTap.{ToTap}
@@ -229,26 +229,31 @@ module _ {O T : Type 0} {b : Ops O T} where
         seen = beside_on P Q R x.outlets.items y.outlets.items z.outlets.items (λ k o p q. seen_more at es fs k o p q) f.seen g.seen;
       }
 
-  pub seen_end : (m : Meaning T) (at : ℕ) (x y : GraphRegion O T b) → length y.outlets.items ≤ at → HasSeenBefore m at x y → HasSeenAll m x y
-  seen_end m at x y all h = record {
-    events = h.events;
-    goes = h.goes;
-    seen = record {
-      count = h.seen.count;
-      each = λ k o p e f. let within = slice_get_within y.outlets.items k p f in (h.seen.each k o p e f).0 (omega (arith, within, all));
-    };
-  }
+  pub seen_end : (m : Meaning T) (at : ℕ) (x y : GraphRegion O T b) → at ≡ length (state_of x.graph).joins → (state_of y.graph).joins ≡ (state_of x.graph).joins → HasSeenBefore m at x y → HasSeenAll m x y
+  seen_end m at x y all joins h =
+      let n = length (state_of x.graph).joins in
+      let before : AreSeenBefore n h.events x.outlets.items y.outlets.items = subst (λ (k : ℕ). AreSeenBefore k h.events x.outlets.items y.outlets.items) all h.seen in record {
+        events = h.events;
+        goes = h.goes;
+        subs = ap length joins;
+        seen = record {
+          count = before.count;
+          each = λ k o p e f. let it = before.each k o p e f in (it.0, λ le. ap (λ (q : ToTap T). up_steps q.up) (it.1 le));
+        };
+      }
 
   -- all were looked at, and then their ends made no step
-  pub seen_then : (x y z : GraphRegion O T b) → HasSeenAll (b.meaning x.graph.ops) x y → Goes (b.meaning y.graph.ops) y z → AreStill y.outlets.items z.outlets.items → HasSeenAll (b.meaning x.graph.ops) x z
-  seen_then x y z f (fs, g) still =
+  pub seen_then : (x y z : GraphRegion O T b) → HasSeenAll (b.meaning x.graph.ops) x y → Goes (b.meaning y.graph.ops) y z → (state_of z.graph).joins ≡ (state_of y.graph).joins → AreStill y.outlets.items z.outlets.items → HasSeenAll (b.meaning x.graph.ops) x z
+  seen_then x y z f (fs, g) joins still =
       let es = f.events in
-      let P : ℕ → ToTap T → ToTap T → Type 0 = λ k o p. IsSeen k es o p in
+      let n = length (state_of x.graph).joins in
+      let P : ℕ → ToTap T → ToTap T → Type 0 = λ k o p. (k < n → IsSeen k es o p) × (n ≤ k → up_steps p.up ≡ up_steps o.up) in
       let Q : ℕ → ToTap T → ToTap T → Type 0 = λ k o p. up_steps p.up ≡ up_steps o.up in
-      let R : ℕ → ToTap T → ToTap T → Type 0 = λ k o p. IsSeen k (es ++ fs) o p in record {
+      let R : ℕ → ToTap T → ToTap T → Type 0 = λ k o p. (k < n → IsSeen k (es ++ fs) o p) × (n ≤ k → up_steps p.up ≡ up_steps o.up) in record {
         events = es ++ fs;
         goes = goes_by_on (b.meaning x.graph.ops) es fs x y z f.goes (under x y z fs f.goes.ops g);
-        seen = beside_on P Q R x.outlets.items y.outlets.items z.outlets.items (λ k o p q h e. seen_still k es fs o p q e h) f.seen still;
+        subs = ap length joins ∙ f.subs;
+        seen = beside_on P Q R x.outlets.items y.outlets.items z.outlets.items (λ k o p q h e. (λ lt. seen_still k es fs o p q e (h.0 lt), λ le. e ∙ h.1 le)) f.seen still;
       }
 
   -- all were looked at again
@@ -256,12 +261,15 @@ module _ {O T : Type 0} {b : Ops O T} where
   seen_again x y z f g =
       let es = f.events in
       let fs = g.events in
-      let P : ℕ → ToTap T → ToTap T → Type 0 = λ k o p. IsSeen k es o p in
-      let Q : ℕ → ToTap T → ToTap T → Type 0 = λ k o p. IsSeen k fs o p in
-      let R : ℕ → ToTap T → ToTap T → Type 0 = λ k o p. IsSeen k (es ++ fs) o p in record {
+      let n = length (state_of x.graph).joins in
+      let again : AreSeen n fs y.outlets.items z.outlets.items = subst (λ (k : ℕ). AreSeen k fs y.outlets.items z.outlets.items) f.subs g.seen in
+      let P : ℕ → ToTap T → ToTap T → Type 0 = λ k o p. (k < n → IsSeen k es o p) × (n ≤ k → up_steps p.up ≡ up_steps o.up) in
+      let Q : ℕ → ToTap T → ToTap T → Type 0 = λ k o p. (k < n → IsSeen k fs o p) × (n ≤ k → up_steps p.up ≡ up_steps o.up) in
+      let R : ℕ → ToTap T → ToTap T → Type 0 = λ k o p. (k < n → IsSeen k (es ++ fs) o p) × (n ≤ k → up_steps p.up ≡ up_steps o.up) in record {
         events = es ++ fs;
         goes = goes_by_on (b.meaning x.graph.ops) es fs x y z f.goes (under x y z fs f.goes.ops g.goes);
-        seen = beside_on P Q R x.outlets.items y.outlets.items z.outlets.items (λ k o p q. seen_twice k es fs o p q) f.seen g.seen;
+        subs = g.subs ∙ f.subs;
+        seen = beside_on P Q R x.outlets.items y.outlets.items z.outlets.items (λ k o p q h i. (λ lt. seen_twice k es fs o p q (h.0 lt) (i.0 lt), λ le. i.1 le ∙ h.1 le)) f.seen again;
       }
 
   -- after so many rounds

@@ -18,8 +18,9 @@ use Rattle.rsx_runtime.specs.Ordered.{is_unended}
 use Rattle.rsx_subscriber.specs.Past.{Past, cancelled, given, requested, requested_in, state_after}
 use Rattle.rsx_subscriber.specs.declared.state.SubscriptionState.{SubscriptionState}
 use Rattle.rsx_subscriber.specs.declared.state.SubscriptionState.TheVariants as state
-use Rattle.rsx_serialized.specs.Events.{Event, after_event, after_events, asked, asked_in, delivered_in, given_by, given_in, in_tree, moved, published, published_by, published_in, signals_for, stopped, stopped_by, stopped_in}
-use Rattle.rsx_serialized.specs.Since.{AreSince, HubSince, PastSince, published_all, state_since}
+use Rattle.rsx_serialized.specs.Events.{Event, after_event, after_events, asked, asked_in, delivered_in, given_by, given_in, in_tree, moved, published, published_by, published_in, signals_for, stopped, stopped_by, stopped_in, subscribed}
+use Rattle.rsx_serialized.specs.Since.{HubSince, PastSince, published_all, state_since}
+use Rattle.rsx_serialized.proofs.Lists.{get_before}
 use Rattle.rsx_serialized.proofs.Steps.{choose_false, choose_true}
 
 -- what stands at a place where one element changed
@@ -109,6 +110,7 @@ hub_after (moved d) h k p e = hub_made d.move d.delivered d.fed h k p e
 hub_after (published j s) h k p e = hub_published j s h k p e
 hub_after (asked i n) h k p e = (p, e, hub_same p)
 hub_after (stopped i) h k p e = (p, e, hub_same p)
+hub_after (subscribed x) h k p e = (p, e, hub_same p)
 
 pub hubs_after : {T : Type 0} (es : List (Event T)) (h : History T) (k : ℕ) (p : HubPast T) → slice_get h.hubs k ≡ Some p → (q : HubPast T) × (slice_get (after_events h es).hubs k ≡ Some q) × HubSince (published_in k es) p q
 hubs_after [] h k p e = (p, e, hub_same p)
@@ -147,7 +149,7 @@ open_before true true state.Ended e = cc
 open_before true true state.Cancelled e = cc
 open_before true true state.Refused e = cc
 
-past_on : {T : Type 0} (k : ℕ) (ev : Event T) (es : List (Event T)) (a b c : Past T) → PastSince k (ev ∷ []) a b → PastSince k es b c → PastSince k (ev ∷ es) a c
+pub past_on : {T : Type 0} (k : ℕ) (ev : Event T) (es : List (Event T)) (a b c : Past T) → PastSince k (ev ∷ []) a b → PastSince k es b c → PastSince k (ev ∷ es) a c
 past_on k ev es a b c f g =
     let one = append-nil (given_by k ev) in
     let stop : stopped_in k (ev ∷ []) ≡ stopped_by k ev = or_false (stopped_by k ev) in
@@ -168,7 +170,7 @@ past_on k ev es a b c f g =
     or_false true = refl
     or_false false = refl
 
-past_same : {T : Type 0} (k : ℕ) (es : List (Event T)) (a : Past T) → given_in k es ≡ [] → stopped_in k es ≡ false → asked_in k a.asked es ≡ a.asked → PastSince k es a a
+pub past_same : {T : Type 0} (k : ℕ) (es : List (Event T)) (a : Past T) → given_in k es ≡ [] → stopped_in k es ≡ false → asked_in k a.asked es ≡ a.asked → PastSince k es a a
 past_same k es a none still n = record {
   expression = refl;
   joins = refl;
@@ -201,7 +203,7 @@ tree_pasts (FeedOf i) o None h = refl
 tree_pasts (FeedOf i) o (Some s) h = refl
 
 -- a move delivers what it delivers
-made_pasts : {T : Type 0} (mv : Move) (o : Option (SubId × Signal T)) (s : Option (Signal T)) (h : History T) → (with_made mv o s h).pasts ≡ (with_delivery (delivered_in mv o) h).pasts
+pub made_pasts : {T : Type 0} (mv : Move) (o : Option (SubId × Signal T)) (s : Option (Signal T)) (h : History T) → (with_made mv o s h).pasts ≡ (with_delivery (delivered_in mv o) h).pasts
 made_pasts (Ask t n) o s h = tree_pasts t o s h
 made_pasts (Send t n) o s h = tree_pasts t o s h
 made_pasts (Take t n) o s h = tree_pasts t o s h
@@ -280,6 +282,7 @@ past_after (asked i n) h k p e =
     changed_past k (asked i n) (requested (pos (suc n))) h.pasts i.0 p e (asked_past k i n p) (λ o. past_same k (asked i n ∷ []) p refl refl (choose_false (nat_eq i.0 k) (saturating_total p.asked (suc n)) p.asked (ne_eqb i.0 k o)))
 past_after (stopped i) h k p e =
     changed_past k (stopped i) cancelled h.pasts i.0 p e (stopped_past k i p) (λ o. past_same k (stopped i ∷ []) p refl (ap (λ x. x || false) (ne_eqb i.0 k o)) refl)
+past_after (subscribed x) h k p e = (p, get_before h.pasts _ k p e, past_same k (subscribed x ∷ []) p refl refl refl)
 
 past_none : {T : Type 0} (k : ℕ) (p : Past T) → PastSince k [] p p
 past_none k p = past_same k [] p refl refl refl
@@ -290,7 +293,3 @@ pasts_after (ev ∷ es) h k p e =
     let one = past_after ev h k p e in
     let all = pasts_after es (after_event h ev) k one.0 one.1 in
     (all.0, all.1, past_on k ev es p one.0 all.0 one.2 all.2)
-
--- of all hubs and subscribers
-pub since : {T : Type 0} (es : List (Event T)) (h : History T) → AreSince es h
-since es h = record { hubs = λ k p e. hubs_after es h k p e; pasts = λ k p e. pasts_after es h k p e }

@@ -1,7 +1,8 @@
 -- Links that are opened one after the other, and the graph that is put between them.
-use Rattle.std.proofs.Common.{◌≡◌, inl, inr, ℕ, zero, suc, ◌+◌, ◌-◌, ◌^◌, ◌<◌, Bool, true, false, if◌then◌else◌, nat_eq, eq-eqb, not, List, [], ◌∷◌, ◌++◌, length, length-append, map, refl, ap, sym, ◌∙◌, subst, arith, add-one, Option, None, Some, option_map, slice_get, Vec, Global, Result, Ok, Err, OnOk, IfErr, IfOk, min}
+use Rattle.std.proofs.Common.{◌≡◌, inl, inr, ℕ, zero, suc, ◌+◌, ◌-◌, ◌^◌, ◌<◌, ◌≤◌, Bool, true, false, if◌then◌else◌, nat_eq, eq-eqb, not, List, [], ◌∷◌, ◌++◌, length, length-append, map, refl, ap, sym, ◌∙◌, subst, arith, add-one, Option, None, Some, option_map, slice_get, Vec, Global, Result, Ok, Err, OnOk, IfErr, IfOk, min}
 use Rattle.std.proofs.lemmas.Bool.{ne_eqb}
 use Rattle.std.proofs.lemmas.List.{append-nil, length-map, map-append}
+use Rattle.std.proofs.lemmas.Option.{slice_get_within}
 use Rattle.rsx_demand.specs.declared.TheConstants.{UNBOUNDED}
 use Rattle.rsx_types.specs.declared.limits.TheConstants.{CAPACITY}
 use Rattle.rsx_types.specs.declared.names.HubId.{HubId}
@@ -16,22 +17,22 @@ use Rattle.rsx_graph.specs.Pieces.{ArePiecesOf}
 use Rattle.rsx_graph.specs.declared.graph.Graph.{Graph}
 use Rattle.rsx_graph.specs.declared.pieces.Pieces.{Pieces}
 use Rattle.rsx_graph_state.specs.Stands.{place_of}
+use Rattle.rsx_graph_state.specs.declared.TheConstants.{MOST_SUBSCRIPTIONS}
 use Rattle.rsx_graph_state.specs.declared.feed.Feed.{Feed}
 use Rattle.rsx_hub.specs.Hub.{HubState, accepted_items}
 use Rattle.rsx_hub.specs.Waiting.{is_open}
 use Rattle.rsx_link.specs.Ends.{IsCancelSeatOf, IsDownOf, IsUpOf, capacity_of, carried_down, carried_up, sent_signals}
 use Rattle.rsx_link.specs.declared.link.Link.{Link}
-use Rattle.rsx_runtime.specs.Tapping.{IsTapOf}
 use Rattle.rsx_runtime.specs.declared.emitter.Emitter.{Emitter}
 use Rattle.rsx_runtime.specs.declared.tap.Tap.{Tap}
 use Rattle.rsx_subscriber.specs.Stands.{standing_of}
 use Rattle.rsx_subscriber.specs.declared.subscription.Subscription.{Subscription}
-use Rattle.rsx_serialized.specs.Ends.{Beside, IsPassedOn}
+use Rattle.rsx_serialized.specs.Ends.{Beside, BesideFew, IsPassedOn}
 use Rattle.rsx_serialized.specs.Opens.{IsEmitterLink, IsTapLink}
 use Rattle.rsx_serialized.specs.Opened.{IsOpened}
-use Rattle.rsx_serialized.specs.Regions.{AreEndsOf, AreInletsOf}
-use Rattle.rsx_serialized.specs.Started.{AreEmittersOf, AreTapsOf, HaveRoom, IsFresh, opened}
-use Rattle.rsx_serialized.specs.Starting.{AreEmitterLinks, AreTapLinks, BesideFirst, CarryAlike, ComesBack, CountsOn, GoesOver, HasEmitterLink, HasTapLink, IsStartedOf, NothingCame, TakesOver, hub_number, is_open_state, unfed, where_none}
+use Rattle.rsx_serialized.specs.Regions.{AreEndsOf, AreInletsOf, AreSpare, IsSpare}
+use Rattle.rsx_serialized.specs.Started.{AreEmittersOf, AreTapsOf, HaveRoom, IsFresh, IsTapAt, opened}
+use Rattle.rsx_serialized.specs.Starting.{AreEmitterLinks, AreTapLinks, BesideFirst, CarryAlike, ComesBack, CountsOn, GoesOver, HasEmitterLink, HasPlace, HasTapLink, IsStartedOf, IsUnasked, NothingCame, TakesOver, hub_number, is_open_state, unfed, where_none}
 use Rattle.rsx_serialized.specs.declared.emitter_links.EmitterLinks.{EmitterLinks}
 use Rattle.rsx_serialized.specs.declared.ends.FromEmitter.{FromEmitter}
 use Rattle.rsx_serialized.specs.declared.ends.ToTap.{ToTap}
@@ -43,7 +44,9 @@ use Rattle.rsx_serialized.specs.declared.region.Links.{Links}
 use Rattle.rsx_serialized.specs.declared.serialized.SerializedGraph.{SerializedGraph}
 use Rattle.rsx_serialized.specs.declared.starting.StartedGraph.{StartedGraph}
 use Rattle.rsx_serialized.specs.declared.tap_links.TapLinks.{TapLinks}
-use Rattle.rsx_serialized.proofs.Lists.{beside_push, get_behind}
+use Rattle.rsx_serialized.specs.declared.starting.TheConstants.{MOST_PLACES}
+use Rattle.rsx_serialized.proofs.Lists.{beside_push, few_more, few_of, get_behind}
+use Rattle.rsx_serialized.proofs.Regions.{spare_as}
 
 -- ---- lists
 
@@ -111,6 +114,18 @@ beside_none P xs ys e f = record { count = ap length f ∙ sym (ap length e); ea
 
 first_none : {X Y : Type 0} (P : X → Y → Type 0) (xs : List X) (ys : List Y) → ys ≡ [] → BesideFirst P 0 xs ys
 first_none P xs ys e = record { count = ap length e; each = λ k x y a b. absurd (none_there ys k y e b) }
+
+few_as : {X Y : Type 0} (P : ℕ → X → Y → Type 0) (xs us : List X) (ys vs : List Y) → us ≡ xs → vs ≡ ys → BesideFew P xs ys → BesideFew P us vs
+few_as {X} {Y} P xs us ys vs e f h =
+    let A : List X → Type 0 = λ l. BesideFew P l ys in
+    let B : List Y → Type 0 = λ l. BesideFew P us l in
+    subst B (sym f) (subst A (sym e) h)
+
+few_all : {X Y : Type 0} (P : ℕ → X → Y → Type 0) (xs : List X) (ys : List Y) → length ys ≡ length xs → BesideFew P xs ys → Beside P xs ys
+few_all P xs ys e h = record { count = e; each = h.each }
+
+abbrev Carried : {T : Type 0} → ℕ → ToTap T → Tap T → Type 0
+Carried k o t = carried_down t.down ≡ carried_up o.up
 
 -- ---- the links of emitters
 
@@ -259,23 +274,44 @@ fed_by (g ∷ fs) (suc k) f hub at e none = fed_later (nat_eq g.hub hub) (place_
 
 -- ---- the links of taps
 
+no_next : (k n p : ℕ) → k ≡ n + p → k < n → ⊥
+no_next k n p e lt = omega arith
+
 module _ {M T : Type 0} (subs : List (Subscription M T)) (n : ℕ) where
   -- nothing was opened
-  pub no_tap_links : (o : TapLinks T) → n ≡ 0 → o.links.items ≡ [] → o.taps.items ≡ [] → o.outlets.items ≡ [] → AreTapLinks subs n o
-  no_tap_links o start ls ts os = record {
+  pub no_tap_links : (o : TapLinks T) → n ≡ 0 → o.links.items ≡ [] → o.taps.items ≡ [] → o.outlets.items ≡ [] → o.spare.items ≡ [] → AreTapLinks subs n 0 o
+  no_tap_links o start ls ts os us = record {
     outlets = beside_none (λ k l (p : ToTap T). IsUpOf l p.up × IsPassedOn p) o.links.items o.outlets.items ls os;
     fresh = λ k p at. absurd (none_there o.outlets.items k p os at);
     room = λ k l at. absurd (none_there o.links.items k l ls at);
-    taps = beside_none (λ k l (t : Tap T). (t.link ≡ k) × (t.sub.0 ≡ k) × IsTapOf l t) o.links.items o.taps.items ls ts;
-    carry = beside_none (λ k (p : ToTap T) (t : Tap T). carried_down t.down ≡ carried_up p.up) o.outlets.items o.taps.items os ts;
+    taps = few_of IsTapAt o.links.items o.taps.items (beside_none IsTapAt o.links.items o.taps.items ls ts);
+    carry = few_of Carried o.outlets.items o.taps.items (beside_none Carried o.outlets.items o.taps.items os ts);
     each = subst (λ k. BesideFirst TakesOver k subs o.taps.items) (sym start) (first_none TakesOver subs o.taps.items ts);
-    ends = subst (λ k. BesideFirst GoesOver k subs o.outlets.items) (sym start) (first_none GoesOver subs o.outlets.items os);
+    ends = λ k s p lt at there. absurd (none_there o.outlets.items k p os there);
+    spare = record {
+      count = let a : length o.links.items ≡ 0 = ap length ls in let c : length o.spare.items ≡ 0 = ap length us in omega (arith, a, c, start);
+      each = λ k l t at there. absurd (none_there o.spare.items k t us there);
+    };
+    count = ap length us;
+    others = λ k p le at. absurd (none_there o.outlets.items k p os at);
   }
 
   -- the next subscription has one, too
-  pub tap_links_more : (old new : TapLinks T) (x : TapLink T) (s : Subscription M T) → slice_get subs n ≡ Some s → IsTapLink (record { 0 = n }) n s.demand.asked (is_open_state (standing_of s)) x → HasTapLink old x new → AreTapLinks subs n old → AreTapLinks subs (n + 1) new
+  pub tap_links_more : (old new : TapLinks T) (x : TapLink T) (s : Subscription M T) → slice_get subs n ≡ Some s → IsTapLink (record { 0 = n }) n s.demand.asked (is_open_state (standing_of s)) x → HasTapLink old x new → AreTapLinks subs n 0 old → AreTapLinks subs (n + 1) 0 new
   tap_links_more old new x s there is more h =
-      let place : n ≡ length old.links.items = sym h.each.count ∙ h.taps.count in
+      let total = h.spare.count in
+      let none = h.count in
+      let ends = h.outlets.count in
+      let taken = h.each.count in
+      let place : n ≡ length old.links.items = omega (arith, total, none) in
+      let sent : n ≡ length old.outlets.items = omega (arith, place, ends) in
+      let as_many : length old.taps.items ≡ length old.links.items = omega (arith, place, taken) in
+      let as_sent : length old.taps.items ≡ length old.outlets.items = omega (arith, sent, taken) in
+      let longer : length new.links.items ≡ length (old.links.items ++ x.link ∷ []) = ap length more.links in
+      let longer_by = length-append old.links.items (x.link ∷ []) in
+      let wider : length new.outlets.items ≡ length (old.outlets.items ++ x.outlet ∷ []) = ap length more.outlets in
+      let wider_by = length-append old.outlets.items (x.outlet ∷ []) in
+      let kept : length new.spare.items ≡ length old.spare.items = ap length more.spare in
       let takes : TakesOver s x.tap = record { gave = is.takes.1; state = is.takes.2; asked = is.asked.0; parts = is.seat.0; steps = (is.seat.1, is.seat.2) } in
       let sends : GoesOver s x.outlet = record { asked = is.asked.1; flags = is.passed.1 } in
       let sub : x.tap.sub.0 ≡ n = ap (λ (i : SubId). i.0) is.names.0 in
@@ -283,30 +319,102 @@ module _ {M T : Type 0} (subs : List (Subscription M T)) (n : ℕ) where
         outlets = beside_more (λ k l (p : ToTap T). IsUpOf l p.up × IsPassedOn p) old.links.items new.links.items old.outlets.items new.outlets.items x.link x.outlet more.links more.outlets (is.sends.0, is.passed.0) h.outlets;
         fresh = each_as (λ (p : ToTap T). sent_signals p.up ≡ []) _ new.outlets.items more.outlets (each_push (λ (p : ToTap T). sent_signals p.up ≡ []) old.outlets.items x.outlet is.sends.1 h.fresh);
         room = room_more old.links.items new.links.items x.link more.links is.room h.room;
-        taps = beside_more (λ k l (t : Tap T). (t.link ≡ k) × (t.sub.0 ≡ k) × IsTapOf l t) old.links.items new.links.items old.taps.items new.taps.items x.link x.tap more.links more.taps (is.names.1 ∙ place, sub ∙ place, is.takes.0) h.taps;
-        carry = beside_more (λ k (p : ToTap T) (t : Tap T). carried_down t.down ≡ carried_up p.up) old.outlets.items new.outlets.items old.taps.items new.taps.items x.outlet x.tap more.outlets more.taps is.carried h.carry;
+        taps = few_of IsTapAt new.links.items new.taps.items (beside_more IsTapAt old.links.items new.links.items old.taps.items new.taps.items x.link x.tap more.links more.taps (is.names.1 ∙ place, sub ∙ place, is.takes.0) (few_all IsTapAt old.links.items old.taps.items as_many h.taps));
+        carry = few_of Carried new.outlets.items new.taps.items (beside_more Carried old.outlets.items new.outlets.items old.taps.items new.taps.items x.outlet x.tap more.outlets more.taps is.carried (few_all Carried old.outlets.items old.taps.items as_sent h.carry));
         each = first_more TakesOver n subs old.taps.items new.taps.items s x.tap more.taps there takes h.each;
-        ends = first_more GoesOver n subs old.outlets.items new.outlets.items s x.outlet more.outlets there sends h.ends;
+        ends = λ k a p lt at here. end_more old new x s there sends more.outlets sent h.ends k a p lt at here;
+        spare = record {
+          count = omega (arith, place, none, longer, longer_by, kept);
+          each = λ k l t at here. let within = slice_get_within new.spare.items k t here in absurd (omega (arith, within, none, kept));
+        };
+        count = kept ∙ none;
+        others = λ k p le here. let within = slice_get_within new.outlets.items k p here in absurd (omega (arith, within, le, wider, wider_by, sent));
       }
+    where
+      end_more : (old new : TapLinks T) (x : TapLink T) (s : Subscription M T) → slice_get subs n ≡ Some s → GoesOver s x.outlet → new.outlets.items ≡ old.outlets.items ++ x.outlet ∷ [] → n ≡ length old.outlets.items →
+          ((k : ℕ) (a : Subscription M T) (p : ToTap T) → k < n → slice_get subs k ≡ Some a → slice_get old.outlets.items k ≡ Some p → GoesOver a p) → (k : ℕ) (a : Subscription M T) (p : ToTap T) → k < n + 1 → slice_get subs k ≡ Some a → slice_get new.outlets.items k ≡ Some p → GoesOver a p
+      end_more old new x s there sends more long all k a p lt at here = elim (get_behind old.outlets.items x.outlet k p (ap (λ (l : List (ToTap T)). slice_get l k) (sym more) ∙ here)) [
+        | inl u ↦ let within = slice_get_within old.outlets.items k p u in all k a p (omega (arith, within, long)) at u
+        | inr u ↦
+            let same : slice_get subs n ≡ slice_get subs k = ap (slice_get subs) (long ∙ sym u.0) in
+            let one : s ≡ a = cc in
+            subst (λ (y : Subscription M T). GoesOver y p) one (subst (λ (y : ToTap T). GoesOver s y) (sym u.1) sends)
+      ]
+
+  -- one more place for a subscription to come
+  pub place_more : (old new : TapLinks T) (x : TapLink T) (p number : ℕ) → number ≡ n + p → IsTapLink (record { 0 = number }) number 0 true x → HasPlace old x new → AreTapLinks subs n p old → AreTapLinks subs n (p + 1) new
+  place_more old new x p number place is more h =
+      let total = h.spare.count in
+      let before = h.count in
+      let ends = h.outlets.count in
+      let few = h.each.count in
+      let longer : length new.links.items ≡ length (old.links.items ++ x.link ∷ []) = ap length more.links in
+      let longer_by = length-append old.links.items (x.link ∷ []) in
+      let kept : length new.spare.items ≡ length (old.spare.items ++ x.tap ∷ []) = ap length more.spare in
+      let kept_by = length-append old.spare.items (x.tap ∷ []) in
+      let number_is : number ≡ length old.links.items = omega (arith, place, total, before) in
+      let spare : IsSpare number x.link x.tap = record { names = (ap (λ (i : SubId). i.0) is.names.0, is.names.1); takes = is.takes; asked = is.asked.0; seat = is.seat } in
+      record {
+        outlets = beside_more (λ k l (q : ToTap T). IsUpOf l q.up × IsPassedOn q) old.links.items new.links.items old.outlets.items new.outlets.items x.link x.outlet more.links more.outlets (is.sends.0, is.passed.0) h.outlets;
+        fresh = each_as (λ (q : ToTap T). sent_signals q.up ≡ []) _ new.outlets.items more.outlets (each_push (λ (q : ToTap T). sent_signals q.up ≡ []) old.outlets.items x.outlet is.sends.1 h.fresh);
+        room = room_more old.links.items new.links.items x.link more.links is.room h.room;
+        taps = few_as IsTapAt (old.links.items ++ x.link ∷ []) new.links.items old.taps.items new.taps.items more.links more.taps (few_more IsTapAt old.links.items old.taps.items x.link h.taps);
+        carry = few_as Carried (old.outlets.items ++ x.outlet ∷ []) new.outlets.items old.taps.items new.taps.items more.outlets more.taps (few_more Carried old.outlets.items old.taps.items x.outlet h.carry);
+        each = subst (λ (l : List (Tap T)). BesideFirst TakesOver n subs l) (sym more.taps) h.each;
+        ends = λ k a q lt at here. elim (get_behind old.outlets.items x.outlet k q (ap (λ (l : List (ToTap T)). slice_get l k) (sym more.outlets) ∙ here)) [
+          | inl u ↦ h.ends k a q lt at u
+          | inr u ↦ let e = u.0 in absurd (no_next k n p (omega (arith, e, ends, total, before)) lt)
+        ];
+        spare = record {
+          count = omega (arith, total, longer, longer_by, kept, kept_by);
+          each = λ k l t at here. spare_more old new x number p spare more.links more.spare h.spare (omega (arith, place, total, before)) before k l t at here;
+        };
+        count = omega (arith, before, kept, kept_by);
+        others = λ k q le here. elim (get_behind old.outlets.items x.outlet k q (ap (λ (l : List (ToTap T)). slice_get l k) (sym more.outlets) ∙ here)) [
+          | inl u ↦ h.others k q le u
+          | inr u ↦ subst (λ (y : ToTap T). IsUnasked y) (sym u.1) (is.asked.1, is.passed.1)
+        ];
+      }
+    where
+      spare_more : (old new : TapLinks T) (x : TapLink T) (number p : ℕ) → IsSpare number x.link x.tap → new.links.items ≡ old.links.items ++ x.link ∷ [] → new.spare.items ≡ old.spare.items ++ x.tap ∷ [] → AreSpare old.links.items n old.spare.items → number ≡ length old.links.items → length old.spare.items ≡ p →
+          (k : ℕ) (l : Link T) (t : Tap T) → slice_get new.links.items (n + k) ≡ Some l → slice_get new.spare.items k ≡ Some t → IsSpare (n + k) l t
+      spare_more old new x number p mine links spare all count places k l t at here =
+          let total = all.count in
+          elim (get_behind old.spare.items x.tap k t (ap (λ (y : List (Tap T)). slice_get y k) (sym spare) ∙ here)) [
+            | inl u ↦ elim (get_behind old.links.items x.link (n + k) l (ap (λ (y : List (Link T)). slice_get y (n + k)) (sym links) ∙ at)) [
+              | inl v ↦ all.each k l t v u
+              | inr v ↦ let within = slice_get_within old.spare.items k t u in let e = v.0 in absurd (omega (arith, within, e, total))
+            ]
+            | inr u ↦ elim (get_behind old.links.items x.link (n + k) l (ap (λ (y : List (Link T)). slice_get y (n + k)) (sym links) ∙ at)) [
+              | inl v ↦ let within = slice_get_within old.links.items (n + k) l v in let e = u.0 in absurd (omega (arith, within, e, total))
+              | inr v ↦ subst (λ (j : ℕ). IsSpare j l t) (count ∙ sym v.0) (subst (λ (y : Link T). IsSpare number y t) (sym v.1) (subst (λ (y : Tap T). IsSpare number x.link y) (sym u.1) mine))
+            ]
+          ]
 
 -- ---- the graph between them
 
-module _ {O T : Type 0} {b : Ops O T} (graph : Graph O T b) (emitters : EmitterLinks T) (taps : TapLinks T) (pending : Vec (SubId × Signal T) Global) (es : AreEmitterLinks graph.hubs.items graph.feeds.items (length graph.hubs.items) emitters) (ts : AreTapLinks graph.subscriptions.items (length graph.subscriptions.items) taps) where
+module _ {O T : Type 0} {b : Ops O T} (graph : Graph O T b) (emitters : EmitterLinks T) (taps : TapLinks T) (pending : Vec (SubId × Signal T) Global) (es : AreEmitterLinks graph.hubs.items graph.feeds.items (length graph.hubs.items) emitters) (ts : AreTapLinks graph.subscriptions.items (length graph.subscriptions.items) (length taps.spare.items) taps) where
   abbrev Region : GraphRegion O T b
-  Region = record { graph = graph; inlets = emitters.inlets; outlets = taps.outlets; pending = pending }
+  Region = record { graph = graph; inlets = emitters.inlets; outlets = taps.outlets; pending = pending; spare = taps.spare }
 
   abbrev Between : Links T
   Between = record { emitters = emitters.links; taps = taps.links }
 
   -- their ends are those of the links
   pub between : AreEndsOf Between Region
-  between = record { inlets = es.inlets; outlets = ts.outlets; subs = ts.ends.count ∙ (sym graph.joined ∙ sym (length-map graph.joins.items (λ v. v.items))) }
+  between = record {
+    inlets = es.inlets;
+    outlets = ts.outlets;
+    spare = spare_as taps.links.items (length graph.subscriptions.items) (length (state_of graph).joins) taps.spare.items taps.spare.items (length-map graph.joins.items (λ v. v.items) ∙ graph.joined) refl ts.spare;
+  }
 
   -- it was put behind a gate
-  pub begun : (s : SerializedGraph O T b) (first : Seat (GraphRegion O T b) (View (Opening O T b))) → pending.items ≡ [] → IsOpened Between Region s first → IsStartedOf graph (record { graph = s; seat = first; emitters = emitters.emitters; taps = taps.taps })
+  pub begun : (s : SerializedGraph O T b) (first : Seat (GraphRegion O T b) (View (Opening O T b))) → pending.items ≡ [] → IsOpened Between Region s first → IsStartedOf graph (length taps.spare.items) (record { graph = s; seat = first; emitters = emitters.emitters; taps = taps.taps })
   begun s first none o =
       let moved : (P : Links T → GraphRegion O T b → Type 0) → P Between Region → P s.links (opened s) = λ P h. subst (λ (l : Links T). P l (opened s)) (sym o.over) (subst (λ (r : GraphRegion O T b). P Between r) (sym o.opening) h) in
       let fresh : IsFresh Between Region = record { inlets = es.fresh; outlets = ts.fresh; pending = none; emitters = es.room; taps = ts.room } in
+      let total = ts.spare.count in
+      let ends = ts.outlets.count in
       let parts : first.me.0.parts ≡ all_parts = ap (λ (v : View (Opening O T b)). v.parts) o.seat.1 in record {
         started = record {
           fresh = moved (λ l r. IsFresh l r) fresh;
@@ -321,7 +429,13 @@ module _ {O T : Type 0} {b : Ops O T} (graph : Graph O T b) (emitters : EmitterL
         hubs = es.numbers;
         emitters = es.each;
         taps = first_all TakesOver graph.subscriptions.items taps.taps.items ts.each;
-        outlets = moved (λ l r. Beside (λ k. GoesOver) graph.subscriptions.items r.outlets.items) (first_all GoesOver graph.subscriptions.items taps.outlets.items ts.ends);
+        outlets = moved (λ l r. BesideFew (λ k (p : ToTap T) x. GoesOver x p) r.outlets.items graph.subscriptions.items) (record {
+          few = omega (arith, total, ends);
+          each = λ k p x at there. ts.ends k x p (slice_get_within graph.subscriptions.items k x there) there at;
+        });
+        links = moved (λ l r. length l.taps.items ≡ length graph.subscriptions.items + length taps.spare.items) (sym total);
+        ends = moved (λ l r. length r.outlets.items ≡ length graph.subscriptions.items + length taps.spare.items) (ends ∙ sym total);
+        others = moved (λ l r. (k : ℕ) (p : ToTap T) → length graph.subscriptions.items ≤ k → slice_get r.outlets.items k ≡ Some p → IsUnasked p) ts.others;
         carry = moved (λ l r. CarryAlike r.outlets.items taps.taps.items) ts.carry;
       }
 
@@ -332,10 +446,14 @@ emitter_links_of {M} {T} hubs us feeds fs o e f h =
     let B : List (Feed M) → Type 0 = λ l. AreEmitterLinks us l (length us) o in
     subst B (sym f) (subst A (sym e) h)
 
-pub tap_links_of : {M T : Type 0} (subs us : List (Subscription M T)) (o : TapLinks T) → us ≡ subs → AreTapLinks subs (length subs) o → AreTapLinks us (length us) o
-tap_links_of {M} {T} subs us o e h =
-    let A : List (Subscription M T) → Type 0 = λ l. AreTapLinks l (length l) o in
-    subst A (sym e) h
+pub tap_links_of : {M T : Type 0} (subs us : List (Subscription M T)) (places : ℕ) (o : TapLinks T) → us ≡ subs → AreTapLinks subs (length subs) places o → AreTapLinks us (length us) (length o.spare.items) o
+tap_links_of {M} {T} subs us places o e h =
+    let A : List (Subscription M T) → Type 0 = λ l. AreTapLinks l (length l) (length o.spare.items) o in
+    subst A (sym e) (subst (λ (n : ℕ). AreTapLinks subs (length subs) n o) (sym h.count) h)
+
+-- how many places there are
+pub places_of : {M T : Type 0} (subs us : List (Subscription M T)) (wanted : ℕ) (o : TapLinks T) → us ≡ subs → AreTapLinks subs (length subs) (min wanted (min MOST_PLACES (MOST_SUBSCRIPTIONS - length subs))) o → length o.spare.items ≡ min wanted (min MOST_PLACES (MOST_SUBSCRIPTIONS - length us))
+places_of subs us wanted o e h = h.count ∙ ap (λ l. min wanted (min MOST_PLACES (MOST_SUBSCRIPTIONS - length l))) (sym e)
 
 -- the same of a graph with the same pieces
 module _ {O T : Type 0} {b : Ops O T} (graph again : Graph O T b) (p : Pieces O T b) (one : ArePiecesOf graph p) (two : ArePiecesOf again p) where
@@ -345,11 +463,12 @@ module _ {O T : Type 0} {b : Ops O T} (graph again : Graph O T b) (p : Pieces O 
   pub back_as : (g : Graph O T b) → state_of again ≡ state_of graph → g ≡ again → ComesBack graph g
   back_as g same is = subst (λ (x : Graph O T b). ComesBack graph x) (sym is) (again_as same)
 
-  pub again_started : (s : StartedGraph O T b) → state_of again ≡ state_of graph → IsStartedOf again s → IsStartedOf graph s
-  again_started s same is =
+  pub again_started : (n m : ℕ) (s : StartedGraph O T b) → state_of again ≡ state_of graph → m ≡ n → IsStartedOf again m s → IsStartedOf graph n s
+  again_started n m s same places is =
       let hubs : again.hubs.items ≡ graph.hubs.items = ap (λ v. v.items) (sym two.hubs ∙ one.hubs) in
       let feeds : again.feeds.items ≡ graph.feeds.items = ap (λ v. v.items) (sym two.feeds ∙ one.feeds) in
-      let subs : again.subscriptions.items ≡ graph.subscriptions.items = ap (λ v. v.items) (sym two.subs ∙ one.subs) in record {
+      let subs : again.subscriptions.items ≡ graph.subscriptions.items = ap (λ v. v.items) (sym two.subs ∙ one.subs) in
+      let count : length again.subscriptions.items + m ≡ length graph.subscriptions.items + n = ap (λ l. length l + m) subs ∙ ap (λ k. length graph.subscriptions.items + k) places in record {
         started = is.started;
         functions = is.functions ∙ (sym two.ops ∙ one.ops);
         state = is.state ∙ same;
@@ -357,6 +476,9 @@ module _ {O T : Type 0} {b : Ops O T} (graph again : Graph O T b) (p : Pieces O 
         hubs = is.hubs ∙ (ap (λ fs. unfed fs (length again.hubs.items)) feeds ∙ ap (λ hs. unfed graph.feeds.items (length hs)) hubs);
         emitters = λ k e at. subst (λ (hs : List (HubState T)). CountsOn hs e) hubs (is.emitters k e at);
         taps = beside_as (λ k. TakesOver) again.subscriptions.items graph.subscriptions.items s.taps.items s.taps.items (sym subs) refl is.taps;
-        outlets = beside_as (λ k. GoesOver) again.subscriptions.items graph.subscriptions.items (opened s.graph).outlets.items (opened s.graph).outlets.items (sym subs) refl is.outlets;
+        outlets = few_as (λ k (p : ToTap T) x. GoesOver x p) (opened s.graph).outlets.items (opened s.graph).outlets.items again.subscriptions.items graph.subscriptions.items refl (sym subs) is.outlets;
+        links = is.links ∙ count;
+        ends = is.ends ∙ count;
+        others = λ k o le at. is.others k o (subst (λ (z : ℕ). z ≤ k) (ap length (sym subs)) le) at;
         carry = is.carry;
       }

@@ -28,7 +28,7 @@ tree_given : {T : Type 0} (t : Tree) (o : Option (SubId × Signal T)) → o ≡ 
 tree_given (Sub i) o e = refl
 tree_given (FeedOf i) o e = sym e
 
-answer_given : {T : Type 0} (mv : Move) (o : Option (SubId × Signal T)) → IsMadeAnswer mv o → delivered_in mv o ≡ o
+pub answer_given : {T : Type 0} (mv : Move) (o : Option (SubId × Signal T)) → IsMadeAnswer mv o → delivered_in mv o ≡ o
 answer_given (Ask t n) o e = tree_given t o e
 answer_given (Send t n) o e = tree_given t o e
 answer_given (Take (Sub i) n) o e = refl

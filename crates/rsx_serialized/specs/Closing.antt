@@ -20,7 +20,7 @@ use Rattle.rsx_runtime.specs.Tapping.{IsTapOf}
 use Rattle.rsx_runtime.specs.declared.emitter.Emitter.{Emitter}
 use Rattle.rsx_runtime.specs.declared.tap.Tap.{Tap}
 use Rattle.rsx_serialized.specs.Ends.{IsPassedOn, held, is_flagged}
-use Rattle.rsx_serialized.specs.Events.{Event, asked_in, given_in, published_in, signals_for, stopped_in}
+use Rattle.rsx_serialized.specs.Events.{AreKnown, Event, asked_in, given_in, published_in, signals_for, stopped_in, subscribed_in}
 use Rattle.rsx_serialized.specs.Opened.{HasStopped}
 use Rattle.rsx_serialized.specs.Regions.{AreEndsOf, StandsSince}
 use Rattle.rsx_serialized.specs.Resting.{IsNotTaken}
@@ -124,9 +124,10 @@ module _ {T : Type 0} where
     pub tap : IsTapOf l t
     pub room : capacity_of l ≤ CAPACITY
 
+  -- of each of these taps: there may be more links, of subscriptions that were never made
   abbrev pub AreTapEnds : List (ToTap T) → List (Link T) → List (Tap T) → Type 0
-  AreTapEnds [] ls ts = (ls ≡ []) × (ts ≡ [])
-  AreTapEnds (o ∷ os) ls ts = (h : HasFirst ls ts) × IsTapEnd o h.link h.other × AreTapEnds os h.links h.others
+  AreTapEnds os ls [] = ⊤
+  AreTapEnds os ls (t ∷ ts) = (h : HasFirst ls os) × IsTapEnd h.other h.link t × AreTapEnds h.others h.links ts
 
   -- Whether a flag of the link was set, as far as its ends know: where some seat cancelled that was taken back, or a bad request was made, it
   -- was; and where all seats were taken back, nowhere else.
@@ -153,8 +154,8 @@ module _ {T : Type 0} where
     pub told : fs ≡ (asks sub items ++ stops sub stopped) ++ later
 
   abbrev pub AllTapsLeft : ℕ → List (Event T) → List (SubId × Signal T) → List (ToTap T) → List (Tap T) → Type 0
-  AllTapsLeft at fs more [] ts = (fs ≡ []) × (more ≡ []) × (ts ≡ [])
-  AllTapsLeft at fs more (o ∷ os) [] = ⊥
+  AllTapsLeft at fs more os [] = (fs ≡ []) × (more ≡ [])
+  AllTapsLeft at fs more [] (t ∷ ts) = ⊥
   AllTapsLeft at fs more (o ∷ os) (t ∷ ts) = (x : TapLeft at fs more o t) × AllTapsLeft (suc at) x.later x.others os ts
 
   -- so it is of the subscriptions from this number on, and the graph went on by what it was told
@@ -194,7 +195,8 @@ module _ {T : Type 0} where
 
 module _ {O T : Type 0} {b : Ops O T} where
   -- A graph came back that was behind a gate, and its links were closed. These things have happened to it: at each hub was published what its
-  -- emitter sent, but for what is left of that; each subscriber received what its tap took, and what is left of that.
+  -- emitter sent, but for what is left of that; each subscriber received what its tap took, and what is left of that. So it is of those whose
+  -- subscriptions were made since, too: a tap is there for each.
   pub record IsClosedSince (opening : GraphRegion O T b) (es : List (Emitter T)) (ts : List (Tap T)) (c : Closed O T b) : Type 0 where
     pub events : List (Event T)
     pub ops : c.graph.ops ≡ opening.graph.ops
@@ -202,8 +204,14 @@ module _ {O T : Type 0} {b : Ops O T} where
     pub emitters : (k : ℕ) (e : Emitter T) → slice_get es k ≡ Some e → EmitterSince events c.unpublished.items e
     pub taps : (k : ℕ) (o : ToTap T) (t : Tap T) → slice_get opening.outlets.items k ≡ Some o → slice_get ts k ≡ Some t → TapSince k events c.untaken.items o t
     pub since : (h : History T) → AreSince events h
+    pub known : AreKnown (length (state_of opening.graph).joins) events
+    pub subs : length ts ≡ length (state_of opening.graph).joins + length (subscribed_in events)
 
-  -- all ends of a graph's links are there
+  -- the tap of each subscription is there
+  abbrev pub HasAllTaps : Stopped O T b → Type 0
+  HasAllTaps s = length s.taps.items ≡ length (state_of s.region.graph).joins
+
+  -- all ends of a graph's links are there, but maybe for taps
   pub record AreAllThere (s : Stopped O T b) : Type 0 where
     pub ends : AreEndsOf s.links s.region
     pub emitters : AreEmittersOf s.links.emitters.items s.region.inlets.items s.emitters.items

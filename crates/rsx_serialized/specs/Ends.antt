@@ -1,8 +1,8 @@
 -- What the ends of links have passed on.
-use Rattle.std.specs.Prelude.{◌≡◌, ℕ, Bool, true, ◌||◌, List, [], ◌∷◌, ◌++◌, length, Some, None, slice_get, min}
+use Rattle.std.specs.Prelude.{◌≡◌, ◌⊎◌, ℕ, ◌+◌, ◌-◌, ◌≤◌, Bool, true, ◌||◌, List, [], ◌∷◌, ◌++◌, length, Some, None, slice_get, min}
 use Rattle.std.specs.Option.{option_to_list}
 use Rattle.rsx_demand.specs.declared.TheConstants.{UNBOUNDED}
-use Rattle.rsx_link.specs.Ends.{carried_up, received_signals, seen_total, sent_signals, up_steps}
+use Rattle.rsx_link.specs.Ends.{carried_up, free_slots, items_sent, received_signals, seen_total, sent_signals, up_steps}
 use Rattle.rsx_link.specs.Steps.{flags_of, has_cancel, has_refusal}
 use Rattle.rsx_link.specs.declared.up.Up.{Up}
 use Rattle.rsx_types.specs.declared.names.SubId.{SubId}
@@ -14,6 +14,11 @@ use Rattle.rsx_serialized.specs.declared.ends.ToTap.{ToTap}
 -- this holds of the elements of two lists that stand at one place, and there are as many of them
 pub record Beside {X Y : Type 0} (P : ℕ → X → Y → Type 0) (xs : List X) (ys : List Y) : Type 0 where
   pub count : length ys ≡ length xs
+  pub each : (k : ℕ) (x : X) (y : Y) → slice_get xs k ≡ Some x → slice_get ys k ≡ Some y → P k x y
+
+-- this holds of the elements of two lists that stand at one place, and there are no more of the second
+pub record BesideFew {X Y : Type 0} (P : ℕ → X → Y → Type 0) (xs : List X) (ys : List Y) : Type 0 where
+  pub few : length ys ≤ length xs
   pub each : (k : ℕ) (x : X) (y : Y) → slice_get xs k ≡ Some x → slice_get ys k ≡ Some y → P k x y
 
 module _ {T : Type 0} where
@@ -46,9 +51,11 @@ module _ {T : Type 0} where
 
   -- ---- what goes to a tap
 
-  -- what was asked for was passed on, as far as it was seen
-  abbrev pub IsPassedOn : ToTap T → Type 0
-  IsPassedOn o = o.asked ≡ min UNBOUNDED (seen_total o.up)
+  -- What was asked for was passed on, as far as it was seen, but for what the queue has no room for beside an ending: as many items as it
+  -- has places but one are asked for and not sent.
+  pub record IsPassedOn (o : ToTap T) : Type 0 where
+    pub most : o.asked ≤ min UNBOUNDED (seen_total o.up)
+    pub rest : (o.asked ≡ min UNBOUNDED (seen_total o.up)) ⊎ (free_slots o.up ≤ o.asked - items_sent o.up + 1)
 
   -- These things have happened to the subscriber with this number: what waited for it, and what was delivered to it since, was sent, but
   -- for what waits for it now. It asked for what the end says, and it was cancelled only where the end saw a flag.

@@ -1,10 +1,12 @@
 -- What has happened to a graph that is moved between links, call by call.
-use Rattle.std.specs.Prelude.{ℕ, pos, suc, Bool, false, ◌||◌, nat_eq, if◌then◌else◌, List, [], ◌∷◌, Option, None}
+use Rattle.std.specs.Prelude.{⊤, ℕ, pos, suc, ◌<◌, Bool, false, ◌||◌, nat_eq, if◌then◌else◌, List, [], ◌∷◌, Option, None}
 use Rattle.std.specs.List.{flat_map, fold}
 use Rattle.std.specs.Option.{option_to_list}
 use Rattle.rsx_demand.specs.Demand.{saturating_total}
+use Rattle.rsx_graph_calls.specs.Subscribing.{with_subscriber}
 use Rattle.rsx_graph.specs.Rows.{History, Made, after_move, with_past, with_published}
 use Rattle.rsx_subscriber.specs.Past.{cancelled, requested}
+use Rattle.rsx_subscriber.specs.Prelude.{Expr}
 use Rattle.rsx_types.specs.declared.names.HubId.{HubId}
 use Rattle.rsx_types.specs.declared.names.Move.{Move}
 use Rattle.rsx_types.specs.declared.names.Move.TheVariants.{Accept, Ask, Pick, Row, Send, Take}
@@ -13,12 +15,14 @@ use Rattle.rsx_types.specs.declared.names.Tree.{Tree}
 use Rattle.rsx_types.specs.declared.names.Tree.TheVariants.{Sub, Feed as FeedOf}
 use Rattle.rsx_types.specs.declared.signal.Signal.{Signal}
 
--- a move was made; a signal was published at a hub; so many items and one more were requested for a subscriber; it was cancelled
+-- a move was made; a signal was published at a hub; so many items and one more were requested for a subscriber; it was cancelled; an
+-- expression was subscribed to
 pub data Event (T : Type 0) : Type 0 where
   moved : Made T → Event T
   published : HubId → Signal T → Event T
   asked : SubId → ℕ → Event T
   stopped : SubId → Event T
+  subscribed : Expr T → Event T
 
 module _ {T : Type 0} where
   -- the history after one of them
@@ -27,6 +31,7 @@ module _ {T : Type 0} where
   after_event h (published k s) = with_published s k h
   after_event h (asked i n) = with_past (requested (pos (suc n))) i h
   after_event h (stopped i) = with_past cancelled i h
+  after_event h (subscribed e) = with_subscriber e h
 
   -- after all of them
   abbrev pub after_events : History T → List (Event T) → History T
@@ -39,6 +44,7 @@ module _ {T : Type 0} where
   published_by k (published j s) = if nat_eq j.0 k then s ∷ [] else []
   published_by k (asked i n) = []
   published_by k (stopped i) = []
+  published_by k (subscribed e) = []
 
   abbrev pub published_in : ℕ → List (Event T) → List (Signal T)
   published_in k es = flat_map (published_by k) es
@@ -70,6 +76,7 @@ module _ {T : Type 0} where
   given_by k (published j s) = []
   given_by k (asked i n) = []
   given_by k (stopped i) = []
+  given_by k (subscribed e) = []
 
   abbrev pub given_in : ℕ → List (Event T) → List (Signal T)
   given_in k es = flat_map (given_by k) es
@@ -81,6 +88,7 @@ module _ {T : Type 0} where
   asked_by k total (published j s) = total
   asked_by k total (asked i n) = if nat_eq i.0 k then saturating_total total (suc n) else total
   asked_by k total (stopped i) = total
+  asked_by k total (subscribed e) = total
 
   -- what a subscriber has asked for, where it had asked for so much before
   abbrev pub asked_in : ℕ → ℕ → List (Event T) → ℕ
@@ -91,8 +99,38 @@ module _ {T : Type 0} where
   stopped_by k (published j s) = false
   stopped_by k (asked i n) = false
   stopped_by k (stopped i) = nat_eq i.0 k
+  stopped_by k (subscribed e) = false
 
   -- whether a subscriber was cancelled
   abbrev pub stopped_in : ℕ → List (Event T) → Bool
   stopped_in k [] = false
   stopped_in k (e ∷ es) = stopped_by k e || stopped_in k es
+
+  -- ---- what was subscribed to
+
+  abbrev pub subscribed_by : Event T → List (Expr T)
+  subscribed_by (moved d) = []
+  subscribed_by (published j s) = []
+  subscribed_by (asked i n) = []
+  subscribed_by (stopped i) = []
+  subscribed_by (subscribed e) = e ∷ []
+
+  -- the expressions, in the order of their subscriptions
+  abbrev pub subscribed_in : List (Event T) → List (Expr T)
+  subscribed_in es = flat_map subscribed_by es
+
+  -- ---- which subscriptions were there
+
+  -- each of these goes to one of so many subscriptions
+  abbrev pub AreFor : ℕ → List (SubId × Signal T) → Type 0
+  AreFor n [] = ⊤
+  AreFor n (d ∷ ds) = (d.0.0 < n) × AreFor n ds
+
+  -- What is delivered, asked for and cancelled is so for subscriptions that are there by then, where so many were there at first.
+  abbrev pub AreKnown : ℕ → List (Event T) → Type 0
+  AreKnown n [] = ⊤
+  AreKnown n (moved d ∷ es) = AreFor n (option_to_list (delivered_in d.move d.delivered)) × AreKnown n es
+  AreKnown n (published j s ∷ es) = AreKnown n es
+  AreKnown n (asked i m ∷ es) = (i.0 < n) × AreKnown n es
+  AreKnown n (stopped i ∷ es) = (i.0 < n) × AreKnown n es
+  AreKnown n (subscribed e ∷ es) = AreKnown (suc n) es

@@ -14,4 +14,5 @@ pub mod Sending
 pub mod Since
 pub mod Started
 pub mod Starting
+pub mod Subscribing
 pub mod Told

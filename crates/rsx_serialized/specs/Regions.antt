@@ -1,16 +1,19 @@
 -- A graph between its links.
-use Rattle.std.specs.Prelude.{◌≡◌, ⊤, ◌++◌, ℕ, Bool, true, ◌<◌, List, [], ◌∷◌, length, Some, slice_get}
+use Rattle.std.specs.Prelude.{◌≡◌, ◌++◌, ℕ, ◌+◌, Bool, true, ◌<◌, List, [], ◌∷◌, length, Some, slice_get}
 use Rattle.rsx_types.specs.Meaning.{Meaning}
 use Rattle.rsx_types.specs.declared.names.SubId.{SubId}
 use Rattle.rsx_types.specs.declared.ops.Ops.{Ghosts as Ops}
 use Rattle.rsx_types.specs.declared.signal.Signal.{Signal}
-use Rattle.rsx_link.specs.Ends.{IsCancelSeatOf, IsDownOf, IsUpOf, received_signals}
+use Rattle.rsx_link.specs.Ends.{IsCancelSeatOf, IsDownOf, IsUpOf, asked_total, cancel_beside, cancel_parts, cancel_steps, received_signals}
 use Rattle.rsx_link.specs.declared.link.Link.{Link}
 use Rattle.rsx_graph.specs.InGraph.{state_of}
 use Rattle.rsx_graph.specs.Rows.{History}
 use Rattle.rsx_graph.specs.Stands.{GraphStands, GraphState}
+use Rattle.rsx_runtime.specs.Tapping.{IsTapOf, given}
+use Rattle.rsx_runtime.specs.declared.tap.Tap.{Tap}
+use Rattle.rsx_runtime.specs.declared.tap.Tapped.TheVariants.{Open}
 use Rattle.rsx_serialized.specs.Ends.{Beside, InletGoes, IsPassedOn, OutletGoes, held}
-use Rattle.rsx_serialized.specs.Events.{Event, after_events}
+use Rattle.rsx_serialized.specs.Events.{AreFor, AreKnown, Event, after_events, subscribed_in}
 use Rattle.rsx_serialized.specs.Told.{publishes}
 use Rattle.rsx_serialized.specs.declared.ends.FromEmitter.{FromEmitter}
 use Rattle.rsx_serialized.specs.declared.ends.ToTap.{ToTap}
@@ -35,10 +38,18 @@ module _ {T : Type 0} where
   abbrev pub OutletsGo : List (Event T) → List (SubId × Signal T) → List (SubId × Signal T) → List (ToTap T) → List (ToTap T) → Type 0
   OutletsGo es before after old new = Beside (λ k. OutletGoes k es before after) old new
 
-  -- each of these goes to one of so many subscriptions
-  abbrev pub AreFor : ℕ → List (SubId × Signal T) → Type 0
-  AreFor n [] = ⊤
-  AreFor n (d ∷ ds) = (d.0.0 < n) × AreFor n ds
+  -- A tap of the subscription with this number, over the link with it, that was handed out to no one or just now: it gave nothing, requested
+  -- nothing, and has the whole right to cancel, by which nothing was cancelled.
+  pub record IsSpare (k : ℕ) (l : Link T) (t : Tap T) : Type 0 where
+    pub names : (t.sub.0 ≡ k) × (t.link ≡ k)
+    pub takes : IsTapOf l t × (given t ≡ []) × (t.state ≡ Open)
+    pub asked : asked_total t.down ≡ 0
+    pub seat : (cancel_parts t.seat ≡ 0 ∷ []) × (cancel_steps t.seat ≡ []) × (cancel_beside t.seat ≡ [])
+
+  -- the taps of the links from this number on, one for each, in their order
+  pub record AreSpare (links : List (Link T)) (n : ℕ) (spare : List (Tap T)) : Type 0 where
+    pub count : n + length spare ≡ length links
+    pub each : (k : ℕ) (l : Link T) (t : Tap T) → slice_get links (n + k) ≡ Some l → slice_get spare k ≡ Some t → IsSpare (n + k) l t
 
   -- signals that came over an emitter's link were published at its hub, but for one that waits; and some were, where this says so
   pub record TakesIn (taken : Bool) (m : Meaning T) (before : GraphState T) (old : FromEmitter T) (after : GraphState T) (new : FromEmitter T) : Type 0 where
@@ -52,11 +63,12 @@ module _ {T : Type 0} where
     pub seat : new.seat ≡ old.seat
 
 module _ {O T : Type 0} {b : Ops O T} where
-  -- the ends are those of the links, and there is one that sends for each subscription
+  -- The ends are those of the links. There is one that sends for each subscription, and others for those to come, whose taps were handed out
+  -- to no one.
   pub record AreEndsOf (links : Links T) (r : GraphRegion O T b) : Type 0 where
     pub inlets : AreInletsOf links.emitters.items r.inlets.items
     pub outlets : AreOutletsOf links.taps.items r.outlets.items
-    pub subs : length r.outlets.items ≡ length (state_of r.graph).joins
+    pub spare : AreSpare links.taps.items (length (state_of r.graph).joins) r.spare.items
 
   -- these things have happened to a graph, between its links
   pub record GoesBy (m : Meaning T) (es : List (Event T)) (old new : GraphRegion O T b) : Type 0 where
@@ -64,6 +76,9 @@ module _ {O T : Type 0} {b : Ops O T} where
     pub stands : StandsSince m es (state_of old.graph) (state_of new.graph)
     pub inlets : Beside (λ k. InletGoes es) old.inlets.items new.inlets.items
     pub outlets : OutletsGo es old.pending.items new.pending.items old.outlets.items new.outlets.items
+    -- as many subscriptions more are there, and nothing is said of one that was not there by then
+    pub subs : length (state_of new.graph).joins ≡ length (state_of old.graph).joins + length (subscribed_in es)
+    pub events : AreKnown (length (state_of old.graph).joins) es
     -- each signal that waits goes to a subscription that is there, where that was so
     pub known : AreFor (length (state_of old.graph).joins) old.pending.items → AreFor (length (state_of new.graph).joins) new.pending.items
 

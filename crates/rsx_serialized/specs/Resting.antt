@@ -1,5 +1,5 @@
 -- When nothing is left to do for a graph between its links, and what its single steps say of that.
-use Rattle.std.specs.Prelude.{◌≡◌, ◌⊎◌, ⊤, ℕ, ◌<◌, ◌≤◌, Bool, true, List, [], ◌∷◌, ◌++◌, Option, Some, None, slice_get, slice_set}
+use Rattle.std.specs.Prelude.{◌≡◌, ◌⊎◌, ⊤, ℕ, ◌<◌, ◌≤◌, Bool, true, List, [], ◌∷◌, ◌++◌, length, Option, Some, None, slice_get, slice_set}
 use Rattle.rsx_types.specs.Meaning.{Allocates, Meaning}
 use Rattle.rsx_types.specs.declared.names.HubId.{HubId}
 use Rattle.rsx_types.specs.declared.names.SubId.{SubId}
@@ -70,9 +70,9 @@ module _ {T : Type 0} where
   abbrev pub AreSeenBefore : ℕ → List (Event T) → List (ToTap T) → List (ToTap T) → Type 0
   AreSeenBefore at es old new = Beside (λ k o p. (k < at → IsSeen k es o p) × (at ≤ k → p ≡ o)) old new
 
-  -- it is so of all
-  abbrev pub AreSeen : List (Event T) → List (ToTap T) → List (ToTap T) → Type 0
-  AreSeen es old new = Beside (λ k. IsSeen k es) old new
+  -- it is so of the first so many, and the others made no step
+  abbrev pub AreSeen : ℕ → List (Event T) → List (ToTap T) → List (ToTap T) → Type 0
+  AreSeen n es old new = Beside (λ k o p. (k < n → IsSeen k es o p) × (n ≤ k → up_steps p.up ≡ up_steps o.up)) old new
 
   -- ---- what comes from an emitter
 
@@ -143,8 +143,9 @@ module _ {O T : Type 0} {b : Ops O T} where
     pub goes : GoesBy m events old new
     pub seen : AreSeenBefore at events old.outlets.items new.outlets.items
 
-  -- by which each tap was, and each subscription was cancelled of which a flag was seen
+  -- by which that of each subscription was, and each was cancelled of which a flag was seen; there was none that is new
   pub record HasSeenAll (m : Meaning T) (old new : GraphRegion O T b) : Type 0 where
     pub events : List (Event T)
     pub goes : GoesBy m events old new
-    pub seen : AreSeen events old.outlets.items new.outlets.items
+    pub subs : length (state_of new.graph).joins ≡ length (state_of old.graph).joins
+    pub seen : AreSeen (length (state_of old.graph).joins) events old.outlets.items new.outlets.items

@@ -3,7 +3,7 @@ use Rattle.std.specs.Prelude.{◌≡◌, ◌⊎◌, ℕ, zero, suc, ◌<◌, Boo
 use Rattle.rsx_types.specs.Meaning.{Meaning}
 use Rattle.rsx_types.specs.declared.ops.Ops.{Ghosts as Ops}
 use Rattle.rsx_link.specs.Ends.{sent_signals}
-use Rattle.rsx_serialized.specs.Events.{Event, asked, moved, published, stopped}
+use Rattle.rsx_serialized.specs.Events.{Event, asked, moved, published, stopped, subscribed}
 use Rattle.rsx_serialized.specs.Regions.{GoesBy}
 use Rattle.rsx_serialized.specs.declared.ends.ToTap.{ToTap}
 use Rattle.rsx_serialized.specs.declared.region.GraphRegion.{GraphRegion}
@@ -15,6 +15,7 @@ module _ {T : Type 0} where
   is_work (published k s) = true
   is_work (asked i n) = false
   is_work (stopped i) = false
+  is_work (subscribed e) = false
 
   -- some of these is so
   abbrev pub has_worked : List (Event T) → Bool

@@ -9,7 +9,7 @@ use Rattle.rsx_link.specs.declared.link.Link.{Link}
 use Rattle.rsx_runtime.specs.Tapping.{IsTapOf}
 use Rattle.rsx_runtime.specs.declared.emitter.Emitter.{Emitter}
 use Rattle.rsx_runtime.specs.declared.tap.Tap.{Tap}
-use Rattle.rsx_serialized.specs.Ends.{Beside}
+use Rattle.rsx_serialized.specs.Ends.{Beside, BesideFew}
 use Rattle.rsx_serialized.specs.declared.ends.FromEmitter.{FromEmitter}
 use Rattle.rsx_serialized.specs.declared.ends.ToTap.{ToTap}
 use Rattle.rsx_serialized.specs.declared.region.GraphRegion.{GraphRegion}
@@ -27,9 +27,13 @@ module _ {T : Type 0} where
     pub ends : Beside (λ k l (e : Emitter T). (e.link ≡ k) × IsUpOf l e.up) links emitters
     pub hubs : Beside (λ k (i : FromEmitter T) (e : Emitter T). e.hub ≡ i.hub) inlets emitters
 
-  -- each is the tap of the subscription with the number of its place, over the link there
+  -- the tap of the subscription with this number, over the link with it
+  abbrev pub IsTapAt : ℕ → Link T → Tap T → Type 0
+  IsTapAt k l t = (t.link ≡ k) × (t.sub.0 ≡ k) × IsTapOf l t
+
+  -- each is the tap of the subscription with the number of its place, over the link there; links for subscriptions to come stand behind
   abbrev pub AreTapsOf : List (Link T) → List (Tap T) → Type 0
-  AreTapsOf links taps = Beside (λ k l (t : Tap T). (t.link ≡ k) × (t.sub.0 ≡ k) × IsTapOf l t) links taps
+  AreTapsOf links taps = BesideFew IsTapAt links taps
 
 module _ {O T : Type 0} {b : Ops O T} where
   -- what a graph's gate was opened with

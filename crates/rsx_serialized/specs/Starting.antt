@@ -1,5 +1,5 @@
 -- A graph is put behind a gate with an emitter for each hub that no feed feeds, and a tap for each subscription.
-use Rattle.std.specs.Prelude.{◌≡◌, ℕ, zero, suc, ◌<◌, ◌≤◌, Bool, true, false, not, List, [], ◌∷◌, ◌++◌, length, map, min, Option, None, Some, slice_get}
+use Rattle.std.specs.Prelude.{◌≡◌, ℕ, zero, suc, ◌+◌, ◌-◌, ◌<◌, ◌≤◌, Bool, true, false, not, List, [], ◌∷◌, ◌++◌, length, map, min, Option, None, Some, slice_get}
 use Rattle.rsx_demand.specs.declared.TheConstants.{UNBOUNDED}
 use Rattle.rsx_types.specs.declared.ops.Ops.{Ghosts as Ops}
 use Rattle.rsx_gate.specs.Machine.{founder}
@@ -7,6 +7,7 @@ use Rattle.rsx_gate.specs.Seats.{key_of}
 use Rattle.rsx_graph.specs.InGraph.{state_of}
 use Rattle.rsx_graph.specs.declared.graph.Graph.{Graph}
 use Rattle.rsx_graph_state.specs.Stands.{place_of}
+use Rattle.rsx_graph_state.specs.declared.TheConstants.{MOST_SUBSCRIPTIONS}
 use Rattle.rsx_graph_state.specs.declared.feed.Feed.{Feed}
 use Rattle.rsx_hub.specs.Hub.{HubState, accepted_items}
 use Rattle.rsx_hub.specs.Waiting.{is_open}
@@ -19,14 +20,15 @@ use Rattle.rsx_subscriber.specs.Stands.{standing_of}
 use Rattle.rsx_subscriber.specs.declared.state.SubscriptionState.{SubscriptionState}
 use Rattle.rsx_subscriber.specs.declared.state.SubscriptionState.TheVariants.{Cancelled, Ended, Open, Refused}
 use Rattle.rsx_subscriber.specs.declared.subscription.Subscription.{Subscription}
-use Rattle.rsx_serialized.specs.Ends.{Beside, is_flagged}
-use Rattle.rsx_serialized.specs.Regions.{AreInletsOf, AreOutletsOf}
+use Rattle.rsx_serialized.specs.Ends.{Beside, BesideFew, is_flagged}
+use Rattle.rsx_serialized.specs.Regions.{AreInletsOf, AreOutletsOf, AreSpare}
 use Rattle.rsx_serialized.specs.Started.{AreEmittersOf, AreTapsOf, HaveRoom, IsStarted, opened}
 use Rattle.rsx_serialized.specs.declared.emitter_links.EmitterLinks.{EmitterLinks}
 use Rattle.rsx_serialized.specs.declared.ends.FromEmitter.{FromEmitter}
 use Rattle.rsx_serialized.specs.declared.ends.ToTap.{ToTap}
 use Rattle.rsx_serialized.specs.declared.links.EmitterLink.{EmitterLink}
 use Rattle.rsx_serialized.specs.declared.links.TapLink.{TapLink}
+use Rattle.rsx_serialized.specs.declared.starting.TheConstants.{MOST_PLACES}
 use Rattle.rsx_serialized.specs.declared.starting.StartedGraph.{StartedGraph}
 use Rattle.rsx_serialized.specs.declared.tap_links.TapLinks.{TapLinks}
 
@@ -106,30 +108,50 @@ module _ {T : Type 0} where
     pub asked : o.asked ≡ s.demand.asked
     pub flags : is_flagged o.up ≡ false
 
+  -- that of a subscription to come: nothing was asked for, and no flag was seen
+  abbrev pub IsUnasked : ToTap T → Type 0
+  IsUnasked o = (o.asked ≡ 0) × (is_flagged o.up ≡ false)
+
   -- both count on from the same number of items
   abbrev pub CarryAlike : List (ToTap T) → List (Tap T) → Type 0
-  CarryAlike outlets taps = Beside (λ k (o : ToTap T) (t : Tap T). carried_down t.down ≡ carried_up o.up) outlets taps
+  CarryAlike outlets taps = BesideFew (λ k (o : ToTap T) (t : Tap T). carried_down t.down ≡ carried_up o.up) outlets taps
 
-  -- the links of the taps of so many subscriptions, with both ends of each, over which nothing went
-  pub record AreTapLinks {M : Type 0} (subs : List (Subscription M T)) (n : ℕ) (o : TapLinks T) : Type 0 where
+  -- the links of the taps of so many subscriptions, and behind them those for so many to come, with both ends of each, over which nothing went
+  pub record AreTapLinks {M : Type 0} (subs : List (Subscription M T)) (n places : ℕ) (o : TapLinks T) : Type 0 where
     pub outlets : AreOutletsOf o.links.items o.outlets.items
     pub fresh : (k : ℕ) (p : ToTap T) → slice_get o.outlets.items k ≡ Some p → sent_signals p.up ≡ []
     pub room : HaveRoom o.links.items
     pub taps : AreTapsOf o.links.items o.taps.items
     pub carry : CarryAlike o.outlets.items o.taps.items
     pub each : BesideFirst TakesOver n subs o.taps.items
-    pub ends : BesideFirst GoesOver n subs o.outlets.items
+    pub ends : (k : ℕ) (s : Subscription M T) (p : ToTap T) → k < n → slice_get subs k ≡ Some s → slice_get o.outlets.items k ≡ Some p → GoesOver s p
+    pub spare : AreSpare o.links.items n o.spare.items
+    pub count : length o.spare.items ≡ places
+    pub others : (k : ℕ) (p : ToTap T) → n ≤ k → slice_get o.outlets.items k ≡ Some p → IsUnasked p
 
   -- this one stands behind them
   pub record HasTapLink (old : TapLinks T) (x : TapLink T) (new : TapLinks T) : Type 0 where
     pub links : new.links.items ≡ old.links.items ++ x.link ∷ []
     pub taps : new.taps.items ≡ old.taps.items ++ x.tap ∷ []
     pub outlets : new.outlets.items ≡ old.outlets.items ++ x.outlet ∷ []
+    pub spare : new.spare.items ≡ old.spare.items
+
+  -- so it does for a subscription to come
+  pub record HasPlace (old : TapLinks T) (x : TapLink T) (new : TapLinks T) : Type 0 where
+    pub links : new.links.items ≡ old.links.items ++ x.link ∷ []
+    pub taps : new.taps.items ≡ old.taps.items
+    pub outlets : new.outlets.items ≡ old.outlets.items ++ x.outlet ∷ []
+    pub spare : new.spare.items ≡ old.spare.items ++ x.tap ∷ []
 
 module _ {O T : Type 0} {b : Ops O T} where
+  -- so many links are opened for subscriptions to come, where so many are wanted: as many as a graph has room for, 64 at most
+  abbrev pub places_in : Graph O T b → ℕ → ℕ
+  places_in graph wanted = min wanted (min MOST_PLACES (MOST_SUBSCRIPTIONS - length graph.subscriptions.items))
+
   -- That graph was put behind a gate, whose seat has made no step. There is an emitter for each hub that no feed feeds, and no other, and a
-  -- tap for each subscription. They count on from what the hubs accepted and the subscribers asked for.
-  pub record IsStartedOf (graph : Graph O T b) (s : StartedGraph O T b) : Type 0 where
+  -- tap for each subscription. They count on from what the hubs accepted and the subscribers asked for. There are links for so many
+  -- subscriptions to come.
+  pub record IsStartedOf (graph : Graph O T b) (places : ℕ) (s : StartedGraph O T b) : Type 0 where
     pub started : IsStarted s
     pub functions : (opened s.graph).graph.ops ≡ graph.ops
     pub state : state_of (opened s.graph).graph ≡ state_of graph
@@ -137,7 +159,10 @@ module _ {O T : Type 0} {b : Ops O T} where
     pub hubs : map hub_number s.emitters.items ≡ unfed graph.feeds.items (length graph.hubs.items)
     pub emitters : (k : ℕ) (e : Emitter T) → slice_get s.emitters.items k ≡ Some e → CountsOn graph.hubs.items e
     pub taps : Beside (λ k. TakesOver) graph.subscriptions.items s.taps.items
-    pub outlets : Beside (λ k. GoesOver) graph.subscriptions.items (opened s.graph).outlets.items
+    pub outlets : BesideFew (λ k (o : ToTap T) x. GoesOver x o) (opened s.graph).outlets.items graph.subscriptions.items
+    pub links : length s.graph.links.taps.items ≡ length graph.subscriptions.items + places
+    pub ends : length (opened s.graph).outlets.items ≡ length graph.subscriptions.items + places
+    pub others : (k : ℕ) (o : ToTap T) → length graph.subscriptions.items ≤ k → slice_get (opened s.graph).outlets.items k ≡ Some o → IsUnasked o
     pub carry : CarryAlike (opened s.graph).outlets.items s.taps.items
 
   -- the graph comes back as it was

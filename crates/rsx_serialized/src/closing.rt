@@ -61,14 +61,15 @@ impl<O: Ops> SerializedGraph<O> {
     ghost use Rattle.rsx_serialized.specs.Opened.{HasStopped};
     ghost use Rattle.rsx_serialized.specs.Started.{AreEmittersOf, AreTapsOf, IsFresh, opened};
 
-    /// Ends the gate, by a seat that has all parts, and the links of these emitters and taps, which are all that there are. Whatever all
-    /// threads did, in any order, the graph that comes back stands for what the graph stood for that was put behind the gate, with what has
-    /// happened since: at each hub was published what its emitter sent, but for what is left of that; each subscriber received what its tap
-    /// took and what that left, asked for what its tap asked for, and was cancelled where its tap or a canceller cancelled, or its tap
-    /// made a bad request. What is left comes back beside the graph.
+    /// Ends the gate, by a seat that has all parts, and the links of these emitters and taps: all emitters, and the tap of each
+    /// subscription, in the order of their numbers. Whatever all threads did, in any order, the graph that comes back stands for what the
+    /// graph stood for that was put behind the gate, with what has happened since: at each hub was published what its emitter sent, but for
+    /// what is left of that; each subscriber received what its tap took and what that left, asked for what its tap asked for, and was
+    /// cancelled where its tap or a canceller cancelled, or its tap made a bad request. What is left comes back beside the graph.
     ///
     /// # Errors
-    /// Where a growth was refused all comes back but the gate, and [`Stopped::close`] may be called again.
+    /// Where a growth was refused, and where the tap of some subscription is not among these ([`Stopped::has_all_taps`]), all comes back but
+    /// the gate, and [`Stopped::close`] may be called again.
     pub fn close(
         self,
         alloc: Global,
@@ -104,7 +105,7 @@ impl<O: Ops> StartedGraph<O> {
     /// Ends the gate and the links, as [`SerializedGraph::close`] does.
     ///
     /// # Errors
-    /// Where a growth was refused all comes back but the gate, and [`Stopped::close`] may be called again.
+    /// As of [`SerializedGraph::close`].
     pub fn close(self, alloc: Global) -> Result<Closed<O>, Stopped<O>>
         requires { IsStarted self }
         ensures closed { IfOk result (IsClosedSince (opened self.graph) self.emitters.items self.taps.items) }
@@ -121,20 +122,33 @@ impl<O: Ops> StartedGraph<O> {
 }
 
 impl<O: Ops> Stopped<O> {
-    ghost use Rattle.std.specs.Prelude.{◌≡◌, ◌+◌, ◌*◌, ◌≤◌, [], length, IfErr, IfOk};
+    ghost use Rattle.std.specs.Prelude.{◌≡◌, ◌+◌, ◌*◌, ◌≤◌, [], length, IfErr, IfOk, MatchBool, OnOk};
     ghost use Rattle.std.specs.Vec.{vec_capacity};
     ghost use Rattle.rsx_types.specs.declared.limits.TheConstants.{CAPACITY};
-    ghost use Rattle.rsx_serialized.specs.Closing.{AreAllThere, HasClosed, HaveRoomFor};
+    ghost use Rattle.rsx_serialized.specs.Closing.{AreAllThere, HasAllTaps, HasClosed, HaveRoomFor};
+
+    /// Whether the tap of each subscription is there: those of the start, and those that [`SerializedGraph::subscribe`] answered.
+    pub fn has_all_taps(&self) -> bool
+        requires { AreAllThere self.now }
+        ensures { MatchBool result (HasAllTaps self.now) (HasAllTaps self.now → ⊥) }
+    {
+        let subscribed = self.region.outlets.len() - self.region.spare.len();
+        self.taps.len() == subscribed
+    }
 
     /// Ends the links, as [`SerializedGraph::close`] does: what is left of an emitter's link is published as far as its hub takes it.
     ///
     /// # Errors
-    /// All comes back as it was where a growth was refused.
+    /// All comes back as it was where not all taps are there, and where a growth was refused.
     pub fn close(self, alloc: Global) -> Result<Closed<O>, Stopped<O>>
         requires { AreAllThere self }
         ensures closed { IfOk result (HasClosed self) }
+        ensures taps { OnOk result (HasAllTaps self) }
         ensures err { IfErr result (λ s. s ≡ self) }
     {
+        if !self.has_all_taps() {
+            return Err(self);
+        }
         match self.room(alloc) {
             Ok(room) => Ok(self.close_into(room)),
             Err(NoMemory) => Err(self),
@@ -163,6 +177,7 @@ impl<O: Ops> Stopped<O> {
     /// Ends the links, and puts what is left of them into lists that have room for it.
     fn close_into(self, room: Room<O::Item>) -> Closed<O>
         requires there { AreAllThere self }
+        requires taps { HasAllTaps self }
         requires room { HaveRoomFor self room }
         ensures { HasClosed self result }
     {
@@ -177,6 +192,7 @@ impl<O: Ops> Stopped<O> {
             inlets,
             outlets,
             pending,
+            spare: _,
         } = region;
         let Links {
             emitters: emitter_links,
@@ -298,8 +314,8 @@ fn next_left<T: Drop>(waiting: Option<Signal<T>>, remaining: &mut Remaining<T>) 
 }
 
 /// Closes the links of these taps, tells the graph what they asked for and whether flags were set, and puts what was delivered and they
-/// didn't take behind what is in the list, which has room for it. The first is the tap of the subscription with the number `first`. It
-/// calls itself once for each.
+/// didn't take behind what is in the list, which has room for it. The first is the tap of the subscription with the number `first`. Links
+/// for subscriptions that were never made are left over. It calls itself once for each tap.
 fn close_taps<O: Ops>(
     graph: &mut Graph<O>,
     first: u32,
@@ -309,20 +325,20 @@ fn close_taps<O: Ops>(
     untaken: &mut Vec<(SubId, Signal<O::Item>)>,
 )
     requires ends { AreTapEnds (into_iter_items outlets.old) (into_iter_items links.old) (into_iter_items taps.old) }
-    requires len { into_iter_len outlets.old ≡ length (into_iter_items outlets.old) }
-    requires there { first + length (into_iter_items outlets.old) ≤ length (state_of graph.old).joins }
+    requires len { into_iter_len taps.old ≡ length (into_iter_items taps.old) }
+    requires there { first + length (into_iter_items taps.old) ≤ length (state_of graph.old).joins }
     requires few { length (state_of graph.old).joins ≤ MOST_SUBSCRIPTIONS }
-    requires room { length untaken.old.items + length (into_iter_items outlets.old) * CAPACITY ≤ vec_capacity untaken.old }
+    requires room { length untaken.old.items + length (into_iter_items taps.old) * CAPACITY ≤ vec_capacity untaken.old }
     ensures ops { graph.new.ops ≡ graph.old.ops }
     ensures closed { TapsClose (O.meaning graph.old.ops) first (into_iter_items outlets.old) (into_iter_items taps.old) (state_of graph.old) (state_of graph.new) untaken.old.items untaken.new.items }
-    ensures room { length untaken.new.items ≤ length untaken.old.items + length (into_iter_items outlets.old) * CAPACITY }
+    ensures room { length untaken.new.items ≤ length untaken.old.items + length (into_iter_items taps.old) * CAPACITY }
     ensures capacity { vec_capacity untaken.new ≡ vec_capacity untaken.old }
 {
-    let Some(outlet) = outlets.next() else {
+    let Some(tap) = taps.next() else {
         return;
     };
     let link = links.next().unwrap();
-    let tap = taps.next().unwrap();
+    let outlet = outlets.next().unwrap();
     close_tap(graph, SubId(first), outlet, link, tap, untaken);
     close_taps(graph, first + 1, outlets, links, taps, untaken);
 }

@@ -25,7 +25,7 @@ pub struct FromEmitter<T> {
 pub struct ToTap<T> {
     /// The end.
     pub up: Up<T>,
-    /// The items that the subscription was asked for in all.
+    /// The items that the subscription was asked for in all: what the tap asked for, but for what the link has no room for yet.
     pub asked: u64,
 }
 
@@ -58,14 +58,17 @@ impl<T: Drop> FromEmitter<T> {
 }
 
 impl<T: Drop> ToTap<T> {
-    ghost use Rattle.std.specs.Prelude.{◌≡◌, ◌≤◌, ◌<◌, ◌+◌, ◌∷◌, ◌++◌, [], false, true};
-    ghost use Rattle.rsx_link.specs.Ends.{IsUpOf, MaySend, SameUp, carried_up, free_slots, sent_signals, up_steps};
+    ghost use Rattle.std.specs.Prelude.{◌≡◌, ◌⊎◌, ◌≤◌, ◌<◌, ◌+◌, ◌-◌, ◌∷◌, ◌++◌, [], false, true};
+    ghost use Rattle.rsx_link.specs.Ends.{IsUpOf, MaySend, SameUp, carried_up, free_slots, items_sent, sent_signals, up_steps};
     ghost use Rattle.rsx_link.specs.Signals.{is_item as is_item_signal};
     ghost use Rattle.rsx_demand.specs.declared.TheConstants.{UNBOUNDED as MOST};
     ghost use Rattle.rsx_serialized.specs.Ends.{IsPassedOn, is_flagged};
     ghost use Rattle.rsx_serialized.specs.Resting.{HasNoRoom, IsLook};
 
-    /// Looks at the link: how many items more are asked for, which then counts as passed on, and whether a flag is set.
+    /// Looks at the link: how many items more are to be requested, which then counts as passed on, and whether a flag is set.
+    ///
+    /// Of what is asked for only so much is passed on as the link has room for, beside an ending. So what is delivered finds room, and a
+    /// tap that asked for more than it takes holds up no other one.
     pub(crate) fn look(&mut self, link: &Link<T>) -> Looked
         requires end { IsUpOf link.now self.old.up }
         requires passed { IsPassedOn self.old }
@@ -73,13 +76,17 @@ impl<T: Drop> ToTap<T> {
         ensures passed { IsPassedOn self.new }
         ensures items { self.new.asked ≡ self.old.asked + result.items }
         ensures most { self.new.asked ≤ MOST }
+        ensures fits { (self.new.asked ≡ self.old.asked) ⊎ (self.new.asked ≤ items_sent self.new.up + (free_slots self.new.up - 1)) }
         ensures stopped { result.stopped ≡ is_flagged self.new.up }
         ensures stays { is_flagged self.old.up ≡ true → is_flagged self.new.up ≡ true }
         ensures looked { IsLook (up_steps self.old.up) (up_steps self.new.up) }
         ensures same { (sent_signals self.new.up ≡ sent_signals self.old.up) × (carried_up self.new.up ≡ carried_up self.old.up) }
     {
         let found = self.up.look(link);
-        let total = UNBOUNDED.min(found.asked);
+        let free = self.up.free(link) as u64;
+        let sent = found.asked - self.up.room();
+        let fits = sent.saturating_add(free.saturating_sub(1));
+        let total = UNBOUNDED.min(found.asked).min(fits.max(self.asked));
         let items = total - self.asked;
         self.asked = total;
         Looked {
@@ -88,18 +95,16 @@ impl<T: Drop> ToTap<T> {
         }
     }
 
-    /// Whether the link takes a signal now: an item only where one is asked for.
-    pub(crate) fn has_room(&mut self, link: &Link<T>, item: bool) -> bool
-        requires { IsUpOf link.now self.old.up }
-        ensures same { SameUp link.now self.old.up self.new.up × (sent_signals self.new.up ≡ sent_signals self.old.up) × (self.new.asked ≡ self.old.asked) }
-        ensures room { result ≡ true → 0 < free_slots self.new.up }
-        ensures none { result ≡ false → HasNoRoom item self.new }
-        ensures may { result ≡ true → (s : SignalSpec T) → is_item_signal s ≡ item → MaySend self.new.up s }
+    /// Whether the link takes a signal now, as far as its last look found: an item only where one is asked for.
+    pub(crate) fn has_room(&self, item: bool) -> bool
+        ensures room { result ≡ true → 0 < free_slots self.now.up }
+        ensures none { result ≡ false → HasNoRoom item self.now }
+        ensures may { result ≡ true → (s : SignalSpec T) → is_item_signal s ≡ item → MaySend self.now.up s }
     {
         if item && self.up.room() == 0 {
             return false;
         }
-        self.up.has_room(link)
+        self.up.known_free() > 0
     }
 
     /// Sends a signal, for which there is room.
@@ -108,10 +113,10 @@ impl<T: Drop> ToTap<T> {
         requires room { 0 < free_slots self.old.up }
         requires may { MaySend self.old.up signal }
         ensures same { SameUp link.now self.old.up self.new.up × (self.new.asked ≡ self.old.asked) }
+        ensures passed { IsPassedOn self.old → IsPassedOn self.new }
         ensures sent { sent_signals self.new.up ≡ sent_signals self.old.up ++ signal ∷ [] }
     {
-        // It doesn't come back.
-        let _ = self.up.send(link, signal);
+        self.up.put(link, signal);
     }
 }
 

@@ -1,6 +1,7 @@
 //! A graph between its links, which one holder at a time moves.
 
 ghost use Rattle.std.specs.Prelude.{◌≡◌, ◌<◌, length, true};
+ghost use Rattle.rsx_graph.specs.InGraph.{state_of};
 ghost use Rattle.rsx_serialized.specs.Regions.{AreEndsOf, GoesOn};
 
 use crate::ends::{FromEmitter, ToTap};
@@ -8,6 +9,7 @@ use crate::publishing::{ask, stop, take_next};
 use crate::sending::{first_sub, send_first};
 use rsx_graph::{Deliveries, Graph, Pumped};
 use rsx_link::Link;
+use rsx_runtime::Tap;
 use rsx_types::{NoMemory, Ops, Signal, SubId};
 use std::alloc::Global;
 use std::mem;
@@ -15,12 +17,12 @@ use std::mem;
 /// How many moves are made before the taps and the emitters are looked at again.
 pub const SLICE: u32 = 64;
 
-/// The links of a graph: one for each emitter, and one for each subscription.
+/// The links of a graph: one for each emitter, one for each subscription, and others for subscriptions to come.
 #[derive(Drop)]
 pub struct Links<T> {
     /// Those of the emitters.
     pub emitters: Vec<Link<T>>,
-    /// Those of the taps, in the order of the subscriptions.
+    /// Those of the taps, in the order of the subscriptions. Behind them stand those for subscriptions to come.
     pub taps: Vec<Link<T>>,
 }
 
@@ -31,10 +33,12 @@ pub struct GraphRegion<O: Ops> {
     pub graph: Graph<O>,
     /// The receiving ends of the emitters' links.
     pub inlets: Vec<FromEmitter<O::Item>>,
-    /// The sending ends of the taps' links, in the order of the subscriptions.
+    /// The sending ends of the taps' links, in the order of the links.
     pub outlets: Vec<ToTap<O::Item>>,
     /// What the graph delivered and was not sent yet, in its order.
     pub pending: Vec<(SubId, Signal<O::Item>)>,
+    /// The taps for subscriptions to come, in the order of their links: the first is that of the next subscription.
+    pub spare: Vec<Tap<O::Item>>,
 }
 
 /// How a serve ended.
@@ -72,7 +76,7 @@ impl<O: Ops> GraphRegion<O> {
         // Nothing is left to do then, as far as the ends know.
         ensures idle { result ≡ Served.Idle → IsAtRest self.new }
 
-        // Each tap was looked at, and each subscription was cancelled of which a flag was seen.
+        // The tap of each subscription was looked at, and each subscription was cancelled of which a flag was seen.
         ensures looked { 0 < budget → HasSeenAll (O.meaning self.old.graph.ops) self.old self.new }
 
         // So many rounds were made, and something was done in each.
@@ -104,13 +108,14 @@ impl<O: Ops> GraphRegion<O> {
         Ok(moved | sent | taken)
     }
 
-    /// Looks at the links of all taps, and passes on what is asked for.
+    /// Looks at the links of the taps of all subscriptions, and passes on what is asked for.
     fn look(&mut self, links: &Links<O::Item>)
         requires { AreEndsOf links.now self.old }
         ensures goes { GoesOn links.now self.old self.new }
         ensures looked { HasSeenAll (O.meaning self.old.graph.ops) self.old self.new }
     {
-        for at in 0..self.outlets.len() {
+        let subscribed = self.outlets.len() - self.spare.len();
+        for at in 0..subscribed {
             self.look_at(at, links);
         }
     }
@@ -118,10 +123,10 @@ impl<O: Ops> GraphRegion<O> {
     /// Looks at the link of one tap: requests what is asked for, and cancels where a flag is set.
     fn look_at(&mut self, at: usize, links: &Links<O::Item>)
         requires ends { AreEndsOf links.now self.old }
-        requires there { at < length self.old.outlets.items }
+        requires there { at < length (state_of self.old.graph).joins }
         ensures goes { GoesOn links.now self.old self.new }
         ensures looked { HasSeenOne (O.meaning self.old.graph.ops) at self.old self.new }
-        ensures count { length self.new.outlets.items ≡ length self.old.outlets.items }
+        ensures joins { (state_of self.new.graph).joins ≡ (state_of self.old.graph).joins }
     {
         let looked = self.outlets[at].look(&links.taps[at]);
         let sub = SubId(at as u32);
@@ -137,7 +142,7 @@ impl<O: Ops> GraphRegion<O> {
         ensures goes { Goes (O.meaning self.old.graph.ops) self.old self.new }
         ensures idle { IfOk result (λ moved. moved ≡ false → self.new.pending.items ≡ [] → IsQuiet self.new) }
         ensures busy { IfOk result (λ moved. moved ≡ true → IsBusy (O.meaning self.old.graph.ops) self.old self.new) }
-        ensures same { (self.new.inlets ≡ self.old.inlets) × (self.new.outlets ≡ self.old.outlets) × ((state_of self.new.graph).joins ≡ (state_of self.old.graph).joins) }
+        ensures same { (self.new.inlets ≡ self.old.inlets) × (self.new.outlets ≡ self.old.outlets) × ((state_of self.new.graph).joins ≡ (state_of self.old.graph).joins) × (self.new.spare ≡ self.old.spare) }
     {
         if !self.pending.is_empty() {
             return Ok(false);
@@ -197,7 +202,7 @@ impl<O: Ops> GraphRegion<O> {
         ensures goes { GoesOn links.now self.old self.new }
         ensures none { result ≡ false → HasLeftAll self.old self.new }
         ensures busy { result ≡ true → IsBusy (O.meaning self.old.graph.ops) self.old self.new }
-        ensures aside { (self.new.pending ≡ self.old.pending) × (self.new.outlets ≡ self.old.outlets) }
+        ensures aside { (self.new.pending ≡ self.old.pending) × (self.new.outlets ≡ self.old.outlets) × ((state_of self.new.graph).joins ≡ (state_of self.old.graph).joins) }
     {
         let mut taken = false;
         for at in 0..self.inlets.len() {
@@ -213,7 +218,7 @@ impl<O: Ops> GraphRegion<O> {
         ensures goes { GoesOn links.now self.old self.new }
         ensures none { result ≡ false → HasLeftOne at self.old self.new }
         ensures busy { result ≡ true → IsBusy (O.meaning self.old.graph.ops) self.old self.new }
-        ensures aside { (self.new.pending ≡ self.old.pending) × (self.new.outlets ≡ self.old.outlets) }
+        ensures aside { (self.new.pending ≡ self.old.pending) × (self.new.outlets ≡ self.old.outlets) × ((state_of self.new.graph).joins ≡ (state_of self.old.graph).joins) }
         ensures count { length self.new.inlets.items ≡ length self.old.inlets.items }
     {
         take_next(&mut self.graph, &mut self.inlets[at], &links.emitters[at])

@@ -34,7 +34,7 @@ pub(crate) fn send_first<T: Drop>(
     ensures full { result ≡ false → FindsNoRoom pending.new.items outlet.new }
 {
     let item = is_item(&pending[0].1);
-    if !outlet.has_room(link, item) {
+    if !outlet.has_room(item) {
         return false;
     }
     let (_, signal) = pending.remove(0);

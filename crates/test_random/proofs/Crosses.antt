@@ -113,7 +113,7 @@ module _ (O T : RattleType) (ops : Ops O.Denot T.Denot) (clone : Clone O.Denot) 
         g,
         (
           search (sendable, crosses, Down.the_field_send, CancelSeat.the_field_send) depth 40 fits 100000,
-          (search (sendable, crosses, Up.the_field_send) depth 40 fits 100000, (search (sendable, crosses) depth 40 fits 100000, tt)),
+          (search (sendable, crosses, Up.the_field_send) depth 40 fits 100000, (search (sendable, crosses) depth 40 fits 100000, (search (sendable, crosses, Down.the_field_send, CancelSeat.the_field_send) depth 40 fits 100000, tt))),
         ),
       )
 

@@ -8,7 +8,7 @@ use Rattle.rsx_runtime.specs.declared.tap.Canceller.{Canceller}
 use Rattle.rsx_runtime.specs.declared.tap.Tap.{Tap}
 use Rattle.rsx_serialized.specs.Calls.{IsAt}
 use Rattle.rsx_serialized.specs.declared.region.Links.{Links}
-use Rattle.test_random.specs.Returned.{Along}
+use Rattle.test_random.specs.Returned.{AlongFew}
 use Rattle.test_random.specs.declared.beside.Cancellers.{Cancellers}
 use Rattle.test_random.specs.declared.beside.Work.{Work}
 
@@ -23,7 +23,7 @@ module _ {T : Type 0} where
 
   -- each tap has the receiving end and a cancel seat of the link at its place
   abbrev pub AreTapsOf : List (Link T) → List (Tap T) → Type 0
-  AreTapsOf links ts = Along links ts (λ k l t. (t.link ≡ k) × (IsDownOf l t.down × IsCancelSeatOf l t.seat))
+  AreTapsOf links ts = AlongFew links ts (λ k l t. (t.link ≡ k) × (IsDownOf l t.down × IsCancelSeatOf l t.seat))
 
   -- the canceller has a cancel seat of the link with its number
   abbrev pub IsCancellerOf : List (Link T) → Canceller → Type 0

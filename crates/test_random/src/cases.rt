@@ -15,6 +15,8 @@ const ADD: u16 = 1;
 const THREE_KEYS: u16 = 1;
 /// The function of `key` that tells all numbers apart.
 const ALL_KEYS: u16 = 2;
+/// The function of `key` with 1,000 keys, of integers alone.
+const THOUSAND_KEYS: u16 = 3;
 
 /// An operator over an expression.
 fn over<T: Drop>(alloc: Global, stage: Stage<T>, input: Expr<T>) -> Result<Expr<T>> {
@@ -55,7 +57,7 @@ pub fn expression<O: Ops>(alloc: Global, ops: &O, case: &str, count: u64) -> Res
     match case {
         "range" => Ok(range),
         "map" => over(alloc, Stage::Map(DOUBLE), range),
-        "filter" | "single" => over(
+        "filter" | "single" | "among" => over(
             alloc,
             Stage::Filter(EVEN),
             over(alloc, Stage::Map(DOUBLE), range)?,
@@ -76,6 +78,7 @@ pub fn expression<O: Ops>(alloc: Global, ops: &O, case: &str, count: u64) -> Res
         "publish" => Ok(Expr::On(WORKER, PREFETCH, Box::new(alloc, range)?)),
         "window" => Ok(Expr::Window(10, Vec::new(alloc), Box::new(alloc, range)?)),
         "group" => Ok(Expr::Group(THREE_KEYS, Vec::new(alloc), Box::new(alloc, range)?)),
+        "groups" => Ok(Expr::Group(THOUSAND_KEYS, Vec::new(alloc), Box::new(alloc, range)?)),
         "flat" => Ok(Expr::Flat(TWICE, CONCURRENCY, Vec::new(alloc), Box::new(alloc, range)?)),
         _ => bail!("no such case"),
     }

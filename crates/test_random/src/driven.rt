@@ -42,6 +42,23 @@ pub fn start<O: Ops>(
     }
 }
 
+/// Puts a graph behind a gate, with so many places for subscriptions to come.
+///
+/// # Errors
+/// For want of memory.
+pub fn start_with_places<O: Ops>(
+    alloc: Global,
+    graph: Graph<O>,
+    places: u32,
+) -> Result<StartedGraph<O>>
+    ensures { IfOk result (λ s. IsStarted s) }
+{
+    match SerializedGraph::start_with_places(alloc, graph, places) {
+        Ok(started) => Ok(started),
+        Err(_) => bail!("there is no memory"),
+    }
+}
+
 /// Publishes a signal at this hub, and answers whether its emitter took it. The error is one with a number.
 pub fn publish_at<O: Ops>(graph: &mut StartedGraph<O>, hub: u32, signal: Signal<O::Item>) -> bool
     requires { IsStarted graph.old }

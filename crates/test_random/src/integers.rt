@@ -9,7 +9,7 @@ const TOO_LARGE: u32 = 1;
 const UNLISTED: u32 = 4;
 
 /// 64-bit integers. `map` 2 doubles, `test` 1 is whether a number is even, `fold` 1 is the sum, `key` 1 is the remainder by
-/// 3, `key` 2 the number's 64 bits, and the item of a list is its first number. Faults: 1 where a sum leaves the type, 4
+/// 3, `key` 2 the number's 64 bits, `key` 3 the remainder by 1,000, and the item of a list is its first number. Faults: 1 where a sum leaves the type, 4
 /// for a function that isn't listed.
 #[derive(Clone, Copy)]
 pub struct Integers;
@@ -27,7 +27,7 @@ impl Ops for Integers {
       mapped = λ f x. if f == 2 then sum_of x x else Err 4;
       tested = λ f x. if f == 1 then Ok (unsigned_abs x % 2 == 0) else Err 4;
       folded = λ f a x. if f == 1 then sum_of a x else Err 4;
-      keyed = λ f x. if f == 1 then Ok (unsigned_abs (int_rem_euclid x (pos 3))) else (if f == 2 then Ok (cast_unsigned w64 x) else Err 4);
+      keyed = λ f x. if f == 1 then Ok (unsigned_abs (int_rem_euclid x (pos 3))) else (if f == 2 then Ok (cast_unsigned w64 x) else (if f == 3 then Ok (unsigned_abs (int_rem_euclid x (pos 1000))) else Err 4));
       expanded = λ f x. Err 4;
       row_of = λ xs. pos 0;
       list_of = λ xs. first_of xs;
@@ -74,6 +74,7 @@ impl Ops for Integers {
         match f {
             1 => Ok(x.rem_euclid(3).unsigned_abs()),
             2 => Ok(x.cast_unsigned()),
+            3 => Ok(x.rem_euclid(1000).unsigned_abs()),
             _ => Err(Fault::Code(UNLISTED)),
         }
     }

@@ -9,7 +9,7 @@
 //! that names the kind of tree, the seed and the step.
 //!
 //! Before that it writes what calls of a graph come to that are made again where memory is refused for them; with a word as its
-//! argument, this alone. Then it drives graphs behind a gate ([`serialized`]), and writes a line of counts. Then threads work on such
+//! argument, this alone. Then it drives graphs behind a gate ([`serialized`]), and writes two lines of counts. Then threads work on such
 //! graphs, and it writes a line for each kind of work ([`threaded`]); with the word `threads` as its argument, these alone. Last it writes
 //! how many items come of some cases that `bench/graph.sh` times, and their sum; with five words it times such a case and does nothing
 //! else ([`timed`]).
@@ -32,7 +32,7 @@ mod work;
 
 use crate::memory::report;
 use crate::numbers::Numbers;
-use crate::serialized::try_runs;
+use crate::serialized::{When, try_runs};
 use crate::threaded::{GRAPHS, try_bad_requests, try_cancellers, try_numbers, try_threads};
 use crate::timed::{summed, time};
 use crate::trees::{KINDS, Kind, tree};
@@ -108,11 +108,16 @@ fn try_all<R: Print + AllocGlobal + Threads + Sync>(rt: &R) -> Result<()> {
             tally.moves, tally.received, tally.equal
         )?;
     }
-    let done = try_runs(rt.alloc())?;
-    println!(rt;
-        "graphs behind a gate: {} runs, {} signals sent by {} emitters, {} of {} signals given by {} taps, equal",
-        done.runs, done.sent, done.emitters, done.given, done.received, done.taps
-    )?;
+    for (name, when) in [
+        ("graphs behind a gate", When::First),
+        ("graphs that are subscribed to behind a gate", When::Later),
+    ] {
+        let done = try_runs(rt.alloc(), when)?;
+        println!(rt;
+            "{name}: {} runs, {} signals sent by {} emitters, {} of {} signals given by {} taps, equal",
+            done.runs, done.sent, done.emitters, done.given, done.received, done.taps
+        )?;
+    }
     try_on_threads(rt)?;
     sum_cases(rt)
 }

@@ -2,7 +2,7 @@
 
 ghost use Rattle.std.specs.Prelude.{◌≡◌, ◌<◌, length};
 ghost use Rattle.rsx_link.specs.Ends.{IsCancelSeatOf, IsDownOf};
-ghost use Rattle.test_random.specs.Returned.{Along};
+ghost use Rattle.test_random.specs.Returned.{Along, AlongFew};
 
 use rsx_link::Link;
 use rsx_serialized::{FromEmitter, GraphRegion, Links, Tap};
@@ -50,8 +50,8 @@ impl<O: Ops> Returned<O> {
 /// Takes the next signal by the tap at this place.
 fn take_at<T: Drop>(links: &Vec<Link<T>>, taps: &mut Vec<Tap<T>>, place: usize) -> Option<Signal<T>>
     requires there { place < length taps.old.items }
-    requires own { Along links.now.items taps.old.items (λ k l t. (t.link ≡ k) × (IsDownOf l t.down × IsCancelSeatOf l t.seat)) }
-    ensures { Along links.now.items taps.new.items (λ k l t. (t.link ≡ k) × (IsDownOf l t.down × IsCancelSeatOf l t.seat)) }
+    requires own { AlongFew links.now.items taps.old.items (λ k l t. (t.link ≡ k) × (IsDownOf l t.down × IsCancelSeatOf l t.seat)) }
+    ensures { AlongFew links.now.items taps.new.items (λ k l t. (t.link ≡ k) × (IsDownOf l t.down × IsCancelSeatOf l t.seat)) }
 {
     taps[place].take_over(&links[place])
 }

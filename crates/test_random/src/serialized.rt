@@ -7,12 +7,14 @@
 //! under what the nodes recorded. Of one that cancelled, what it got has to be the beginning of that value. What was published at a hub
 //! is what its emitter sent, but for what the graph didn't take. Then that is published, too, the graph goes on to its end, and all is
 //! compared again.
+//!
+//! In other runs nothing is subscribed to at the start: the expressions are subscribed to while the turns are made, one after the other.
 
 ghost use Rattle.std.specs.Prelude.{IfOk};
 ghost use Rattle.rsx_serialized.specs.Started.{IsStarted};
 ghost use Rattle.test_random.specs.Returned.{HasRest};
 
-use crate::driven::{Call, call_tap, publish_at, start};
+use crate::driven::{Call, call_tap, publish_at, start, start_with_places};
 use crate::numbers::Numbers;
 use crate::plans::{Plan, new_graph};
 use crate::returned::Returned;
@@ -30,6 +32,18 @@ const RUNS: u32 = 2_000;
 
 /// How many turns are made while a graph is behind its gate.
 const TURNS: u32 = 80;
+
+/// Every how many turns an expression is subscribed to, in a run in which none is at the start.
+const LATER: u32 = 12;
+
+/// When the expressions are subscribed to.
+#[derive(Clone, Copy, PartialEq, Eq)]
+pub enum When {
+    /// Before the graph goes behind its gate.
+    First,
+    /// While the turns are made.
+    Later,
+}
 
 /// More moves than any graph makes at once.
 const MOST_MOVES: u32 = 100_000;
@@ -72,7 +86,7 @@ pub struct Told {
 ///
 /// # Errors
 /// Where a comparison differs, or for want of memory.
-pub fn try_runs(alloc: Global) -> Result<Done> {
+pub fn try_runs(alloc: Global, when: When) -> Result<Done> {
     let mut done = Done {
         runs: 0,
         emitters: 0,
@@ -82,7 +96,7 @@ pub fn try_runs(alloc: Global) -> Result<Done> {
         received: 0,
     };
     for seed in 1..=RUNS {
-        match try_run(alloc, seed, &mut done) {
+        match try_run(alloc, seed, when, &mut done) {
             Ok(()) => {}
             Err(why) => bail!("a graph behind a gate, seed {seed}: {why}"),
         }
@@ -91,7 +105,7 @@ pub fn try_runs(alloc: Global) -> Result<Done> {
 }
 
 /// Makes the run of this seed.
-fn try_run(alloc: Global, seed: u32, done: &mut Done) -> Result<()> {
+fn try_run(alloc: Global, seed: u32, when: When, done: &mut Done) -> Result<()> {
     let mut numbers = Numbers::new(seed);
     let plan = Plan::new(alloc, &mut numbers)?;
     let mut told = Told {
@@ -99,7 +113,7 @@ fn try_run(alloc: Global, seed: u32, done: &mut Done) -> Result<()> {
         received: Vec::new(alloc),
         refused: Vec::new(alloc),
     };
-    let started = turned(alloc, &plan, &mut numbers, &mut told)?;
+    let started = turned(alloc, &plan, when, &mut numbers, &mut told)?;
     let given = told.received.len();
     let (mut graph, left) = closed(alloc, started, &mut told)?;
     let mut published = without(alloc, &plan, &told.sent, &left)?;
@@ -119,17 +133,46 @@ fn try_run(alloc: Global, seed: u32, done: &mut Done) -> Result<()> {
 fn turned(
     alloc: Global,
     plan: &Plan,
+    when: When,
     numbers: &mut Numbers,
     told: &mut Told,
 ) -> Result<StartedGraph<Demo>>
     ensures { IfOk result (λ s. IsStarted s) }
 {
     let graph = new_graph(alloc, plan)?;
-    let mut started = start(alloc, graph, &plan.exprs)?;
-    for _ in 0..TURNS {
+    let mut started = match when {
+        When::First => start(alloc, graph, &plan.exprs)?,
+        When::Later => start_with_places(alloc, graph, plan.subs())?,
+    };
+    for at in 0..TURNS {
+        if when == When::Later && at % LATER == 0 {
+            subscribe(alloc, &mut started, plan, at / LATER)?;
+        }
         turn(alloc, &mut started, plan, numbers, told)?;
     }
     Ok(started)
+}
+
+/// Subscribes to the expression with this number, if there is one.
+///
+/// # Errors
+/// Where the graph refuses it.
+fn subscribe(
+    alloc: Global,
+    started: &mut StartedGraph<Demo>,
+    plan: &Plan,
+    number: u32,
+) -> Result<()>
+    requires { IsStarted started.old }
+    ensures { IsStarted started.new }
+{
+    let Some(expr) = plan.exprs.get(number as usize) else {
+        return Ok(());
+    };
+    match started.subscribe(alloc, expr) {
+        Ok(_) => Ok(()),
+        Err(_) => bail!("expression {number} was not subscribed to"),
+    }
 }
 
 /// Closes the graph, and answers it with what its hubs didn't take of what the emitters sent. What no tap took counts as received.
@@ -169,6 +212,10 @@ fn turn(
     ensures { IsStarted started.new }
 {
     let sub = numbers.below(plan.subs());
+    if sub as usize >= started.taps.len() {
+        let _ = started.poke(alloc, 1);
+        return Ok(());
+    }
     let call = match numbers.below(64) {
         0..=21 => {
             let _ = started.poke(alloc, numbers.below(8));
@@ -250,6 +297,7 @@ pub fn taken_out(
         inlets: _,
         outlets: _,
         pending,
+        spare: _,
     } = region;
     for (sub, signal) in pending {
         told.received.push((sub.0, signal))?;

@@ -34,7 +34,7 @@ pub send_first-requires-clause-some : goal.send_first-requires-clause-some
 send_first-requires-clause-some g c = first_some c.in-Some.at c.args.self.now.pending.items (subst (λ ds. IsFirstFor c.in-Some.at ds) c.deref.ensures.value c.in-Some.ensures.some)
 
 pub returns-clause-goes : goal.returns-clause-goes
-returns-clause-goes g c = sends_step c.args.links.now c.args.self.now _ c.in-Some.at c.send_first.result c.index.result.now c.index_mut.result.now c.send_first.new.outlet c.requires (search rules) c.index.ensures c.index_mut.ensures.value refl refl refl (subst (λ ds. IsFirstFor c.in-Some.at ds) c.deref.ensures.value c.in-Some.ensures.some) c.send_first.ensures.kept c.send_first.ensures.sent
+returns-clause-goes g c = sends_step c.args.links.now c.args.self.now _ c.in-Some.at c.send_first.result c.index.result.now c.index_mut.result.now c.send_first.new.outlet c.requires (search rules) c.index.ensures c.index_mut.ensures.value refl refl refl (subst (λ ds. IsFirstFor c.in-Some.at ds) c.deref.ensures.value c.in-Some.ensures.some) c.send_first.ensures.kept c.send_first.ensures.sent refl
 
 pub returns-clause-none : goal.returns-clause-none
 returns-clause-none g c e =
@@ -52,5 +52,5 @@ returns-clause-busy g c e =
     let os = c.args.self.now.outlets.items in
     let there = outlet_at os c.in-Some.at c.index_mut.result.now (search rules) c.index_mut.ensures.value in
     busy_sent c.args.links.now c.args.self.now _
-    (sends_step c.args.links.now c.args.self.now _ c.in-Some.at c.send_first.result c.index.result.now c.index_mut.result.now c.send_first.new.outlet c.requires (search rules) c.index.ensures c.index_mut.ensures.value refl refl refl (subst (λ ds. IsFirstFor c.in-Some.at ds) c.deref.ensures.value c.in-Some.ensures.some) c.send_first.ensures.kept c.send_first.ensures.sent)
+    (sends_step c.args.links.now c.args.self.now _ c.in-Some.at c.send_first.result c.index.result.now c.index_mut.result.now c.send_first.new.outlet c.requires (search rules) c.index.ensures c.index_mut.ensures.value refl refl refl (subst (λ ds. IsFirstFor c.in-Some.at ds) c.deref.ensures.value c.in-Some.ensures.some) c.send_first.ensures.kept c.send_first.ensures.sent refl)
     (sent_one c.send_first.result c.args.self.now.pending.items c.send_first.new.pending.items os c.in-Some.at c.index_mut.result.now c.send_first.new.outlet there (set_there os c.in-Some.at c.index_mut.result.now c.send_first.new.outlet there) c.send_first.ensures.sent e)

@@ -5,7 +5,7 @@ use Rattle.rsx_serialized.proofs.Rounds.{either_busy}
 use Rattle.rsx_serialized.proofs.region.GraphRegion.take_in.Goals as goal
 
 pub loop-at-init : goal.loop-at-init
-loop-at-init g c = record { goes = region_same c.args.links.now c.args.self.now c.requires; none = λ e. left_start c.args.self.now; busy = λ e. cc; pending = refl; outlets = refl; count = search rules }
+loop-at-init g c = record { goes = region_same c.args.links.now c.args.self.now c.requires; none = λ e. left_start c.args.self.now; busy = λ e. cc; pending = refl; outlets = refl; joins = refl; count = search rules }
 
 pub loop-at-preserved : goal.loop-at-preserved
 loop-at-preserved g c = record {
@@ -14,6 +14,7 @@ loop-at-preserved g c = record {
   busy = λ e. either_busy c.loop-at.taken c.take_at-taken.result c.args.self.now c.loop-at.self c.take_at-taken.new.self c.loop-at.invariant.busy c.take_at-taken.ensures.busy c.loop-at.invariant.goes.1 c.take_at-taken.ensures.goes.1 e;
   pending = c.take_at-taken.ensures.aside.0 ∙ c.loop-at.invariant.pending;
   outlets = c.take_at-taken.ensures.aside.1 ∙ c.loop-at.invariant.outlets;
+  joins = c.take_at-taken.ensures.aside.2 ∙ c.loop-at.invariant.joins;
   count = c.loop-at.invariant.count ∙ sym c.take_at-taken.ensures.count;
 }
 

@@ -1,4 +1,5 @@
 use Rattle.std.proofs.Common.{◌≡◌, false, length, true}
+use Rattle.rsx_graph.specs.InGraph.{state_of}
 use Rattle.rsx_serialized.specs.Regions.{GoesOn}
 use Rattle.rsx_serialized.specs.Resting.{HasLeftBefore}
 use Rattle.rsx_serialized.specs.Rounds.{IsBusy}
@@ -11,5 +12,6 @@ invariant-loop-at g l = record {
   busy : l.taken ≡ true → IsBusy (g.O.Ops.meaning l.fn.self.graph.ops) l.fn.self l.self;
   pending : l.self.pending ≡ l.fn.self.pending;
   outlets : l.self.outlets ≡ l.fn.self.outlets;
+  joins : (state_of l.self.graph).joins ≡ (state_of l.fn.self.graph).joins;
   count : l.at-end ≡ length l.self.inlets.items;
 }

@@ -5,7 +5,7 @@ use Rattle.rsx_serialized.proofs.Starts.{no_tap_links, tap_links_more}
 use Rattle.rsx_serialized.proofs.tap_links.TapLinks.of.Goals as goal
 
 pub loop-number-init : goal.loop-number-init
-loop-number-init g c = no_tap_links c.args.subs.now 0 c.none-opened.result refl c.none-opened.ensures.0 c.none-opened.ensures.1 c.none-opened.ensures.2
+loop-number-init g c = no_tap_links c.args.subs.now 0 c.none-opened.result refl c.none-opened.ensures.0 c.none-opened.ensures.1 c.none-opened.ensures.2 c.none-opened.ensures.3
 
 pub loop-number-preserved : goal.loop-number-preserved
 loop-number-preserved g c =
@@ -16,4 +16,4 @@ loop-number-preserved g c =
 pub returns : goal.returns
 returns g c =
     let all : c.loop-number.number ≡ length c.args.subs.now = omega (arith, c.loop-number.auto.number-end, c.loop-number-test.false) in
-    subst (λ n. AreTapLinks c.args.subs.now n c.loop-number.opened) all c.loop-number.invariant
+    subst (λ n. AreTapLinks c.args.subs.now n 0 c.loop-number.opened) all c.loop-number.invariant
