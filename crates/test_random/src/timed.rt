@@ -6,9 +6,10 @@
 //! even ones of the doubled); `half` (the doubled of the even ones); `single` (as `filter`, each item asked for and pumped by itself);
 //! `buffer` (lists of 10); `scan` (as many as there are of the totals); `keys3` and `keys` (distinct, with three keys and with a key for
 //! each number); `concat`, `merge`, `zip` and `latest` (of two ranges, each to a half of COUNT, with a prefetch of 64); `publish` (a
-//! `publishOn` with a prefetch of 64); `window` (of 10), `group` (a `groupBy` with three keys) and, of the items of the demonstration,
-//! `flat` (a `flatMap` of each number twice, four lanes at a time), each with an empty chain; `fan1`, `fan8` and `fan64` (the numbers
-//! published to a hub, 64 before each pump, with so many readers that have asked for all).
+//! `publishOn` with a prefetch of 64); `window` (of 10), `group` (a `groupBy` with three keys), of integers `groups` (one with 1,000 keys)
+//! and, of the items of the demonstration, `flat` (a `flatMap` of each number twice, four lanes at a time), each with an empty chain;
+//! `fan1`, `fan8` and `fan64` (the numbers published to a hub, 64 before each pump, with so many readers that have asked for all);
+//! `beside` (as `fan1`, beside 255 subscriptions of ranges, of which nothing is asked); `among` (as `single`, among 255 of these).
 //!
 //! How many items came and their sum go to standard output, which is the same in every run, and the least time to standard error.
 
@@ -107,22 +108,46 @@ where
     }
 }
 
+/// How many subscriptions are idle throughout this case: nothing is asked of them.
+fn idle_in(case: &str) -> u32 {
+    match case {
+        "beside" | "among" => 255,
+        _ => 0,
+    }
+}
+
+/// Subscribes to ranges, of which nothing is asked.
+fn rest<O: Ops>(alloc: Global, ops: &O, graph: &mut Graph<O>, count: u32) -> Result<()> {
+    for _ in 0..count {
+        subscribed(alloc, ops, graph, "range", 1)?;
+    }
+    Ok(())
+}
+
 /// How many readers share a hub in this case, if it is one of a hub.
 fn readers_of(case: &str) -> Option<u32> {
     match case {
-        "fan1" => Some(1),
+        "fan1" | "beside" => Some(1),
         "fan8" => Some(8),
         "fan64" => Some(64),
         _ => None,
     }
 }
 
-/// One run of a hub with so many readers, to which the numbers are published.
-fn publish<O: Ops>(alloc: Global, ops: O, readers: u32, count: u64, budget: u32) -> Result<Sum>
+/// One run of a hub with so many readers, to which the numbers are published, beside so many idle subscriptions.
+fn publish<O: Ops>(
+    alloc: Global,
+    ops: O,
+    readers: u32,
+    idle: u32,
+    count: u64,
+    budget: u32,
+) -> Result<Sum>
 where
     O::Item: Weight,
 {
     let mut graph = Graph::new(alloc, ops)?;
+    rest(alloc, &ops, &mut graph, idle)?;
     let hub = graph.hub(alloc, HubKind::Multicast, BATCH)?;
     for _ in 0..readers {
         let sub = graph.subscribe(alloc, &Expr::Hub(hub))?;
@@ -151,11 +176,12 @@ where
     O::Item: Weight,
 {
     if let Some(readers) = readers_of(case) {
-        return publish(alloc, ops, readers, count, budget);
+        return publish(alloc, ops, readers, idle_in(case), count, budget);
     }
     let Ok(mut graph) = Graph::new(alloc, ops) else {
         bail!("no memory")
     };
+    rest(alloc, &ops, &mut graph, idle_in(case))?;
     let mut out = Deliveries::new(alloc);
     let mut sum = Sum { items: 0, sum: 0 };
     let mut left = count;
@@ -164,7 +190,7 @@ where
         left -= size;
         let sub = subscribed(alloc, &ops, &mut graph, case, size)?;
         let (requests, n) = match case {
-            "single" => (size, 1),
+            "single" | "among" => (size, 1),
             _ => (1, i64::MAX),
         };
         for _ in 0..requests {
