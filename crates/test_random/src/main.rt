@@ -18,6 +18,7 @@ mod beside;
 mod cases;
 mod driven;
 mod ends;
+mod gated;
 mod integers;
 mod memory;
 mod numbers;
@@ -49,13 +50,14 @@ const TREES: u32 = 100;
 const STEPS: u32 = 4_000;
 
 /// The timed cases that are summed: the items, and the case. What they come to is known without a graph.
-const CASES: [(&'static str, &'static str); 6] = [
+const CASES: [(&'static str, &'static str); 7] = [
     ("numbers", "filter"),
     ("numbers", "half"),
     ("numbers", "concat"),
     ("values", "filter"),
     ("values", "buffer"),
     ("values", "fan8"),
+    ("numbers", "serial8"),
 ];
 
 /// Tries the steps of this seed over a tree of this kind, and counts them. Answers the step after which a comparison differs,

@@ -9,11 +9,14 @@
 //! `publishOn` with a prefetch of 64); `window` (of 10), `group` (a `groupBy` with three keys), of integers `groups` (one with 1,000 keys)
 //! and, of the items of the demonstration, `flat` (a `flatMap` of each number twice, four lanes at a time), each with an empty chain;
 //! `fan1`, `fan8` and `fan64` (the numbers published to a hub, 64 before each pump, with so many readers that have asked for all);
-//! `beside` (as `fan1`, beside 255 subscriptions of ranges, of which nothing is asked); `among` (as `single`, among 255 of these).
+//! `beside` (as `fan1`, beside 255 subscriptions of ranges, of which nothing is asked); `among` (as `single`, among 255 of these);
+//! `serial1` and `serial8` (a hub behind a gate, with so many readers, [`crate::gated`]); `serialidle` (as `serial1`, beside 32
+//! subscriptions of ranges, of which nothing is asked).
 //!
 //! How many items came and their sum go to standard output, which is the same in every run, and the least time to standard error.
 
 use crate::cases::expression;
+use crate::gated::serve;
 use crate::integers::Integers;
 use anyhow::{Result, bail};
 use rsx_demo::{Demo, Val};
@@ -31,7 +34,8 @@ const LONGEST: u64 = 1_000_000;
 const BATCH: u64 = 64;
 
 /// What an item adds to the sum.
-trait Weight {
+pub trait Weight {
+    /// So much.
     fn weight(&self) -> i64;
 }
 
@@ -64,10 +68,15 @@ impl Sum {
     fn add<T: Weight + Drop>(&mut self, deliveries: &Deliveries<T>) {
         for (_, signal) in deliveries.as_slice() {
             if let Signal::Next(item) = signal {
-                self.items = self.items.wrapping_add(1);
-                self.sum = self.sum.wrapping_add(item.weight());
+                self.add_item(item);
             }
         }
+    }
+
+    /// Takes in an item.
+    pub fn add_item<T: Weight>(&mut self, item: &T) {
+        self.items = self.items.wrapping_add(1);
+        self.sum = self.sum.wrapping_add(item.weight());
     }
 }
 
@@ -112,12 +121,13 @@ where
 fn idle_in(case: &str) -> u32 {
     match case {
         "beside" | "among" => 255,
+        "serialidle" => 32,
         _ => 0,
     }
 }
 
 /// Subscribes to ranges, of which nothing is asked.
-fn rest<O: Ops>(alloc: Global, ops: &O, graph: &mut Graph<O>, count: u32) -> Result<()> {
+pub fn rest<O: Ops>(alloc: Global, ops: &O, graph: &mut Graph<O>, count: u32) -> Result<()> {
     for _ in 0..count {
         subscribed(alloc, ops, graph, "range", 1)?;
     }
@@ -130,6 +140,15 @@ fn readers_of(case: &str) -> Option<u32> {
         "fan1" | "beside" => Some(1),
         "fan8" => Some(8),
         "fan64" => Some(64),
+        _ => None,
+    }
+}
+
+/// How many readers share a hub behind a gate in this case, if it is one of that.
+fn gated_readers_of(case: &str) -> Option<u32> {
+    match case {
+        "serial1" | "serialidle" => Some(1),
+        "serial8" => Some(8),
         _ => None,
     }
 }
@@ -177,6 +196,9 @@ where
 {
     if let Some(readers) = readers_of(case) {
         return publish(alloc, ops, readers, idle_in(case), count, budget);
+    }
+    if let Some(readers) = gated_readers_of(case) {
+        return serve(alloc, ops, readers, idle_in(case), count, budget);
     }
     let Ok(mut graph) = Graph::new(alloc, ops) else {
         bail!("no memory")
