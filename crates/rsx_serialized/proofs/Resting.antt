@@ -1,5 +1,5 @@
 -- When nothing is left to do, carried over single steps.
-use Rattle.std.proofs.Common.{◌≡◌, ◌⊎◌, inl, inr, ℕ, zero, suc, ◌+◌, ◌<◌, ◌≤◌, Bool, true, false, ◌||◌, List, [], ◌∷◌, ◌++◌, append_assoc, length, get_or, refl, ap, sym, ◌∙◌, subst, arith, Option, Some, None, Ok, slice_get, slice_set}
+use Rattle.std.proofs.Common.{◌≡◌, ◌⊎◌, inl, inr, ℕ, zero, suc, ◌+◌, ◌<◌, ◌≤◌, Bool, true, false, ◌&&◌, ◌||◌, List, [], ◌∷◌, ◌++◌, append_assoc, length, get_or, refl, ap, sym, ◌∙◌, subst, arith, Option, Some, None, Ok, slice_get, slice_set}
 use Rattle.std.proofs.lemmas.Option.{slice_get_within}
 use Rattle.rsx_types.specs.Meaning.{Meaning}
 use Rattle.rsx_types.specs.declared.names.SubId.{SubId}
@@ -19,7 +19,7 @@ use Rattle.rsx_subscriber.specs.Delivered.{Delivered}
 use Rattle.rsx_serialized.specs.Ends.{is_flagged}
 use Rattle.rsx_serialized.specs.Events.{Event, stopped_in}
 use Rattle.rsx_serialized.specs.Regions.{AreEndsOf, Goes, GoesBy}
-use Rattle.rsx_serialized.specs.Resting.{AreHeldUp, AreSeen, AreSeenBefore, AreStill, FindsNoRoom, HasLeftAll, HasLeftBefore, HasLeftOne, HasNoRoom, HasSeenAll, HasSeenBefore, HasSeenOne, HasSentNone, IsAtRest, IsLeft, IsLook, IsOneSeen, IsQuiet, IsSeen, IsTakenIn}
+use Rattle.rsx_serialized.specs.Resting.{AreHeldUp, AreSeen, AreSeenBefore, AreStill, FindsNoRoom, HasDelivered, HasLeftAll, HasLeftBefore, HasLeftOne, HasNoRoom, HasSeenAll, HasSeenBefore, HasSeenOne, HasSentNone, IsAtRest, IsLeft, IsLook, IsOneSeen, IsQuiet, IsSeen, IsTakenIn}
 use Rattle.rsx_serialized.specs.Sending.{IsFirstFor, SendsFirst}
 use Rattle.rsx_serialized.specs.declared.ends.FromEmitter.{FromEmitter}
 use Rattle.rsx_serialized.specs.declared.ends.ToTap.{ToTap}
@@ -44,6 +44,10 @@ or_left false b e = cc
 pub or_right : (a b : Bool) → b ≡ true → (a || b) ≡ true
 or_right true b e = refl
 or_right false b e = e
+
+pub and_right : (a b : Bool) → (a && b) ≡ true → b ≡ true
+and_right true b e = e
+and_right false b e = cc
 
 pub neither : (a b : Bool) → (a || b) ≡ false → (a ≡ false) × (b ≡ false)
 neither true b e = cc
@@ -73,6 +77,11 @@ module _ {T : Type 0} where
   pub sent_none : (sent : Bool) (before after : List (SubId × Signal T)) (old new : ToTap T) → SendsFirst sent before after old new → sent ≡ false → after ≡ before
   sent_none true before after old new h e = cc
   sent_none false before after old new h e = h.0
+
+  -- one less waits where it was sent
+  pub sent_fewer : (sent : Bool) (before after : List (SubId × Signal T)) (old new : ToTap T) → SendsFirst sent before after old new → sent ≡ true → length before ≡ length after + 1
+  sent_fewer true before after old new (d, front, sent) e = let n = ap length front in omega (arith, n)
+  sent_fewer false before after old new h e = cc
 
   -- of the first of these it was said whether it is an item
   pub finds_none : (ds : List (SubId × Signal T)) (d : SubId × Signal T) (item : Bool) (o : ToTap T) → d ≡ get_or ds 0 d → item ≡ is_item d.1 → HasNoRoom item o → FindsNoRoom ds o
@@ -292,13 +301,19 @@ module _ {O T : Type 0} {b : Ops O T} where
   pub idle_quiet : (budget : ℕ) (x y : Graph O T b) (before after : Delivered T) → HasPumpedIn budget x before (Ok Idle) y after → IsAllQuiet (b.meaning x.ops) (state_of y).rows
   idle_quiet budget x y before after h = h.ends.1
 
-  -- moves were made, then nothing was sent, and nothing was published
-  pub at_rest : (y z w : GraphRegion O T b) → (y.pending.items ≡ [] → IsQuiet y) → HasSentNone y z → z.graph ≡ y.graph → HasLeftAll z w → w.graph.ops ≡ z.graph.ops → w.pending ≡ z.pending → w.outlets ≡ z.outlets → IsAtRest w
-  at_rest y z w quiet sent graph taken ops waits outs =
+  -- moves were made where nothing waited before, and then all was sent that finds room
+  pub delivers_all : (waited sent : Bool) (x y z : GraphRegion O T b) → (waited ≡ false → x.pending.items ≡ []) → (x.pending.items ≡ [] → IsQuiet y) → (y.pending.items ≡ [] → IsQuiet y) → (sent ≡ false → HasSentNone y z) → AreHeldUp z.pending.items z.outlets.items → z.graph ≡ y.graph → waited && sent ≡ false → HasDelivered z
+  delivers_all false sent x y z empty p q none held graph e = record { sent = held; moved = λ f. quiet_at y.graph z.graph graph (p (empty refl)) }
+  delivers_all true false x y z empty p q none held graph e = record { sent = held; moved = λ f. quiet_at y.graph z.graph graph (q (sym (none refl).pending ∙ f)) }
+  delivers_all true true x y z empty p q none held graph e = cc
+
+  -- and then nothing was published
+  pub at_rest : (z w : GraphRegion O T b) → HasDelivered z → HasLeftAll z w → w.graph.ops ≡ z.graph.ops → w.pending ≡ z.pending → w.outlets ≡ z.outlets → IsAtRest w
+  at_rest z w delivered taken ops waits outs =
       let waits' : w.pending.items ≡ z.pending.items = ap (λ v. v.items) waits in
       let outs' : w.outlets.items ≡ z.outlets.items = ap (λ v. v.items) outs in
-      let held : AreHeldUp w.pending.items z.outlets.items = subst (λ (l : List (SubId × Signal T)). AreHeldUp l z.outlets.items) (sym waits') sent.held in record {
+      let held : AreHeldUp w.pending.items z.outlets.items = subst (λ (l : List (SubId × Signal T)). AreHeldUp l z.outlets.items) (sym waits') delivered.sent in record {
         sent = subst (λ (l : List (ToTap T)). AreHeldUp w.pending.items l) (sym outs') held;
-        moved = λ none. quiet_in z.graph w.graph ops taken.same (quiet_at y.graph z.graph graph (quiet (sym sent.pending ∙ (sym waits' ∙ none))));
+        moved = λ none. quiet_in z.graph w.graph ops taken.same (delivered.moved (sym waits' ∙ none));
         taken = taken.left;
       }

@@ -1,5 +1,5 @@
 -- Links that are opened one after the other, and the graph that is put between them.
-use Rattle.std.proofs.Common.{◌≡◌, inl, inr, ℕ, zero, suc, ◌+◌, ◌-◌, ◌^◌, ◌<◌, ◌≤◌, Bool, true, false, if◌then◌else◌, nat_eq, eq-eqb, not, List, [], ◌∷◌, ◌++◌, length, length-append, map, refl, ap, sym, ◌∙◌, subst, arith, add-one, Option, None, Some, option_map, slice_get, Vec, Global, Result, Ok, Err, OnOk, IfErr, IfOk, min}
+use Rattle.std.proofs.Common.{◌≡◌, inl, inr, ℕ, zero, suc, ◌+◌, ◌-◌, ◌^◌, ◌<◌, ◌≤◌, Bool, true, false, if◌then◌else◌, nat_eq, eq-eqb, not, List, [], ◌∷◌, ◌++◌, length, length-append, map, refl, ap, sym, ◌∙◌, subst, arith, add-one, Option, None, Some, option_map, slice_get, Global, Result, Ok, Err, OnOk, IfErr, IfOk, min}
 use Rattle.std.proofs.lemmas.Bool.{ne_eqb}
 use Rattle.std.proofs.lemmas.List.{append-nil, length-map, map-append}
 use Rattle.std.proofs.lemmas.Option.{slice_get_within}
@@ -393,9 +393,9 @@ module _ {M T : Type 0} (subs : List (Subscription M T)) (n : ℕ) where
 
 -- ---- the graph between them
 
-module _ {O T : Type 0} {b : Ops O T} (graph : Graph O T b) (emitters : EmitterLinks T) (taps : TapLinks T) (pending : Vec (SubId × Signal T) Global) (es : AreEmitterLinks graph.hubs.items graph.feeds.items (length graph.hubs.items) emitters) (ts : AreTapLinks graph.subscriptions.items (length graph.subscriptions.items) (length taps.spare.items) taps) where
+module _ {O T : Type 0} {b : Ops O T} (graph : Graph O T b) (emitters : EmitterLinks T) (taps : TapLinks T) (r : GraphRegion O T b) (es : AreEmitterLinks graph.hubs.items graph.feeds.items (length graph.hubs.items) emitters) (ts : AreTapLinks graph.subscriptions.items (length graph.subscriptions.items) (length taps.spare.items) taps) where
   abbrev Region : GraphRegion O T b
-  Region = record { graph = graph; inlets = emitters.inlets; outlets = taps.outlets; pending = pending; spare = taps.spare }
+  Region = record r { graph = graph; inlets = emitters.inlets; outlets = taps.outlets; spare = taps.spare }
 
   abbrev Between : Links T
   Between = record { emitters = emitters.links; taps = taps.links }
@@ -409,7 +409,7 @@ module _ {O T : Type 0} {b : Ops O T} (graph : Graph O T b) (emitters : EmitterL
   }
 
   -- it was put behind a gate
-  pub begun : (s : SerializedGraph O T b) (first : Seat (GraphRegion O T b) (View (Opening O T b))) → pending.items ≡ [] → IsOpened Between Region s first → IsStartedOf graph (length taps.spare.items) (record { graph = s; seat = first; emitters = emitters.emitters; taps = taps.taps })
+  pub begun : (s : SerializedGraph O T b) (first : Seat (GraphRegion O T b) (View (Opening O T b))) → r.pending.items ≡ [] → IsOpened Between Region s first → IsStartedOf graph (length taps.spare.items) (record { graph = s; seat = first; emitters = emitters.emitters; taps = taps.taps })
   begun s first none o =
       let moved : (P : Links T → GraphRegion O T b → Type 0) → P Between Region → P s.links (opened s) = λ P h. subst (λ (l : Links T). P l (opened s)) (sym o.over) (subst (λ (r : GraphRegion O T b). P Between r) (sym o.opening) h) in
       let fresh : IsFresh Between Region = record { inlets = es.fresh; outlets = ts.fresh; pending = none; emitters = es.room; taps = ts.room } in

@@ -124,6 +124,11 @@ module _ {O T : Type 0} {b : Ops O T} where
     pub pending : new.pending.items ≡ old.pending.items
     pub held : AreHeldUp new.pending.items new.outlets.items
 
+  -- of what the graph delivers nothing is left to do: what waits finds no room at its tap, and where nothing waits no move is enabled
+  pub record HasDelivered (r : GraphRegion O T b) : Type 0 where
+    pub sent : AreHeldUp r.pending.items r.outlets.items
+    pub moved : r.pending.items ≡ [] → IsQuiet r
+
   -- Nothing is left to do, as far as the ends know: what waits to be sent finds no room at its tap; where nothing waits no move of the graph
   -- is enabled; and no signal of an emitter can be published.
   pub record IsAtRest (r : GraphRegion O T b) : Type 0 where

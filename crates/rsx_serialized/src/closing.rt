@@ -217,7 +217,7 @@ impl<O: Ops> Stopped<O> {
             &mut emitters.into_iter(),
             &mut unpublished,
         );
-        put_behind(&mut pending.into_iter(), &mut untaken);
+        put_behind(&mut pending.into_vec().into_iter(), &mut untaken);
         Closed {
             graph,
             untaken,

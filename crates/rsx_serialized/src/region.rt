@@ -12,9 +12,10 @@ use rsx_link::Link;
 use rsx_runtime::Tap;
 use rsx_types::{NoMemory, Ops, Signal, SubId};
 use std::alloc::Global;
+use std::collections::VecDeque;
 use std::mem;
 
-/// How many moves are made before the taps and the emitters are looked at again.
+/// How many moves are made, and how many signals of an emitter are published, before the others are looked at again.
 pub const SLICE: u32 = 64;
 
 /// The links of a graph: one for each emitter, one for each subscription, and others for subscriptions to come.
@@ -36,7 +37,7 @@ pub struct GraphRegion<O: Ops> {
     /// The sending ends of the taps' links, in the order of the links.
     pub outlets: Vec<ToTap<O::Item>>,
     /// What the graph delivered and was not sent yet, in its order.
-    pub pending: Vec<(SubId, Signal<O::Item>)>,
+    pub pending: VecDeque<(SubId, Signal<O::Item>)>,
     /// The taps for subscriptions to come, in the order of their links: the first is that of the next subscription.
     pub spare: Vec<Tap<O::Item>>,
 }
@@ -54,16 +55,16 @@ pub enum Served {
 }
 
 impl<O: Ops> GraphRegion<O> {
-    ghost use Rattle.std.specs.Prelude.{◌≡◌, ◌<◌, IfOk, [], false, length, true};
+    ghost use Rattle.std.specs.Prelude.{◌≡◌, ◌<◌, ◌+◌, IfOk, [], false, length, true};
     ghost use Rattle.rsx_graph.specs.InGraph.{state_of};
     ghost use Rattle.rsx_serialized.specs.Regions.{AreEndsOf, Goes, GoesOn};
-    ghost use Rattle.rsx_serialized.specs.Resting.{AreStill, HasLeftAll, HasLeftOne, HasSeenAll, HasSeenOne, HasSentNone, IsAtRest, IsQuiet};
+    ghost use Rattle.rsx_serialized.specs.Resting.{AreHeldUp, AreStill, HasDelivered, HasLeftAll, HasLeftOne, HasSeenAll, HasSeenOne, HasSentNone, IsAtRest, IsQuiet};
     ghost use Rattle.rsx_serialized.specs.Rounds.{AreRounds, IsBusy};
 
-    /// Moves the graph between its links: what was delivered is sent to the taps, what they asked for is requested, subscriptions whose
-    /// taps cancelled or made a bad request are cancelled, what emitters sent is published, and moves are made while no delivery waits. It
+    /// Moves the graph between its links: what the taps asked for is requested, subscriptions whose taps cancelled or made a bad request are
+    /// cancelled, what emitters sent is published, moves are made while no delivery waits, and what was delivered is sent to the taps. It
     /// does so in rounds, at most `budget` of them, until nothing is left to do. A round makes at most [`SLICE`] moves, and publishes at
-    /// most one signal of each emitter.
+    /// most [`SLICE`] signals of each emitter before them, and as many behind them.
     ///
     /// These things have then happened to the graph, and nothing else: of each emitter's link what was taken from it is published, but for
     /// the one signal that waits; to each tap was sent what was delivered to its subscriber, but for what waits.
@@ -93,19 +94,20 @@ impl<O: Ops> GraphRegion<O> {
         Served::Budget
     }
 
-    /// One round, and whether something was done by which more may be left to do.
+    /// One round, and whether more may be left to do: if so, something was done.
     fn round(&mut self, alloc: Global, links: &Links<O::Item>) -> Result<bool, NoMemory>
         requires { AreEndsOf links.now self.old }
         ensures goes { GoesOn links.now self.old self.new }
-        ensures idle { IfOk result (λ done. done ≡ false → IsAtRest self.new) }
-        ensures busy { IfOk result (λ done. done ≡ true → IsBusy (O.meaning self.old.graph.ops) self.old self.new) }
+        ensures idle { IfOk result (λ more. more ≡ false → IsAtRest self.new) }
+        ensures busy { IfOk result (λ more. more ≡ true → IsBusy (O.meaning self.old.graph.ops) self.old self.new) }
         ensures looked { HasSeenAll (O.meaning self.old.graph.ops) self.old self.new }
     {
         self.look(links);
-        let moved = self.move_on(alloc)?;
-        let sent = self.send_out(links);
+        self.take_in(links);
+        let more = self.deliver(alloc, links)?;
+        // Where the moves made room at a hub, it may take what waited.
         let taken = self.take_in(links);
-        Ok(moved | sent | taken)
+        Ok(more | taken)
     }
 
     /// Looks at the links of the taps of all subscriptions, and passes on what is asked for.
@@ -134,6 +136,24 @@ impl<O: Ops> GraphRegion<O> {
         stop(&mut self.graph, sub, looked.stopped);
     }
 
+    /// Makes moves, where nothing waits to be sent, and sends what waits. Answers whether more of that may be left: if so, some was done.
+    ///
+    /// # Errors
+    /// [`NoMemory`] where a growth was refused. What was done before stands.
+    fn deliver(&mut self, alloc: Global, links: &Links<O::Item>) -> Result<bool, NoMemory>
+        requires { AreEndsOf links.now self.old }
+        ensures goes { GoesOn links.now self.old self.new }
+        ensures idle { IfOk result (λ more. more ≡ false → HasDelivered self.new) }
+        ensures busy { IfOk result (λ more. more ≡ true → IsBusy (O.meaning self.old.graph.ops) self.old self.new) }
+        ensures still { AreStill self.old.outlets.items self.new.outlets.items }
+        ensures joins { (state_of self.new.graph).joins ≡ (state_of self.old.graph).joins }
+    {
+        let waited = !self.pending.is_empty();
+        let moved = self.move_on(alloc)?;
+        let sent = self.send_out(links);
+        Ok(moved | (waited & sent))
+    }
+
     /// Makes moves, where nothing waits to be sent, and whether the budget of a slice was used up.
     ///
     /// # Errors
@@ -141,15 +161,17 @@ impl<O: Ops> GraphRegion<O> {
     fn move_on(&mut self, alloc: Global) -> Result<bool, NoMemory>
         ensures goes { Goes (O.meaning self.old.graph.ops) self.old self.new }
         ensures idle { IfOk result (λ moved. moved ≡ false → self.new.pending.items ≡ [] → IsQuiet self.new) }
+        ensures quiet { IfOk result (λ moved. moved ≡ false → self.old.pending.items ≡ [] → IsQuiet self.new) }
         ensures busy { IfOk result (λ moved. moved ≡ true → IsBusy (O.meaning self.old.graph.ops) self.old self.new) }
         ensures same { (self.new.inlets ≡ self.old.inlets) × (self.new.outlets ≡ self.old.outlets) × ((state_of self.new.graph).joins ≡ (state_of self.old.graph).joins) × (self.new.spare ≡ self.old.spare) }
     {
         if !self.pending.is_empty() {
             return Ok(false);
         }
-        let mut out = Deliveries::from_vec(mem::replace(&mut self.pending, Vec::new(alloc)));
+        let pending = mem::replace(&mut self.pending, VecDeque::new(alloc));
+        let mut out = Deliveries::from_vec(pending.into_vec());
         let pumped = self.graph.pump(alloc, SLICE, &mut out);
-        self.pending = out.into_vec();
+        self.pending = VecDeque::from_vec(out.into_vec());
         match pumped {
             Ok(Pumped::Idle) => Ok(false),
             Ok(Pumped::Budget) => Ok(true),
@@ -161,6 +183,7 @@ impl<O: Ops> GraphRegion<O> {
     fn send_out(&mut self, links: &Links<O::Item>) -> bool
         requires { AreEndsOf links.now self.old }
         ensures goes { GoesOn links.now self.old self.new }
+        ensures held { AreHeldUp self.new.pending.items self.new.outlets.items }
         ensures none { result ≡ false → HasSentNone self.old self.new }
         ensures busy { result ≡ true → IsBusy (O.meaning self.old.graph.ops) self.old self.new }
         ensures still { AreStill self.old.outlets.items self.new.outlets.items }
@@ -181,6 +204,7 @@ impl<O: Ops> GraphRegion<O> {
         requires { AreEndsOf links.now self.old }
         ensures goes { GoesOn links.now self.old self.new }
         ensures none { result ≡ false → HasSentNone self.old self.new }
+        ensures fewer { result ≡ true → length self.old.pending.items ≡ length self.new.pending.items + 1 }
         ensures busy { result ≡ true → IsBusy (O.meaning self.old.graph.ops) self.old self.new }
         ensures still { AreStill self.old.outlets.items self.new.outlets.items }
         ensures same { self.new.graph ≡ self.old.graph }
@@ -196,7 +220,7 @@ impl<O: Ops> GraphRegion<O> {
         send_first(&mut self.pending, &mut self.outlets[at], &links.taps[at])
     }
 
-    /// Publishes the next signal of each emitter, where its hub takes it, and whether one was published.
+    /// Publishes the next signals of each emitter, as far as its hub takes them, and whether one was published.
     fn take_in(&mut self, links: &Links<O::Item>) -> bool
         requires { AreEndsOf links.now self.old }
         ensures goes { GoesOn links.now self.old self.new }
@@ -206,7 +230,27 @@ impl<O: Ops> GraphRegion<O> {
     {
         let mut taken = false;
         for at in 0..self.inlets.len() {
-            taken |= self.take_at(at, links);
+            taken |= self.take_from(at, links);
+        }
+        taken
+    }
+
+    /// Publishes the next signals of one emitter, as far as there are any and the hub takes them, and whether one was published.
+    fn take_from(&mut self, at: usize, links: &Links<O::Item>) -> bool
+        requires ends { AreEndsOf links.now self.old }
+        requires there { at < length self.old.inlets.items }
+        ensures goes { GoesOn links.now self.old self.new }
+        ensures none { result ≡ false → HasLeftOne at self.old self.new }
+        ensures busy { result ≡ true → IsBusy (O.meaning self.old.graph.ops) self.old self.new }
+        ensures aside { (self.new.pending ≡ self.old.pending) × (self.new.outlets ≡ self.old.outlets) × ((state_of self.new.graph).joins ≡ (state_of self.old.graph).joins) }
+        ensures count { length self.new.inlets.items ≡ length self.old.inlets.items }
+    {
+        let mut taken = false;
+        for _signal in 0..SLICE {
+            if !self.take_at(at, links) {
+                return taken;
+            }
+            taken = true;
         }
         taken
     }

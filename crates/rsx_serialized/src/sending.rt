@@ -9,11 +9,12 @@ ghost use Rattle.rsx_serialized.specs.Sending.{IsFirstFor, IsOffered, SendsFirst
 use crate::ends::ToTap;
 use rsx_link::Link;
 use rsx_types::{Signal, SubId};
+use std::collections::VecDeque;
 
 /// The number of the subscription to which the first of these goes, if there is one.
-pub(crate) fn first_sub<T>(pending: &[(SubId, Signal<T>)]) -> Option<usize>
-    ensures some { IfSome result (λ n. IsFirstFor n pending.now) }
-    ensures none { IfNone result (length pending.now ≡ 0) }
+pub(crate) fn first_sub<T>(pending: &VecDeque<(SubId, Signal<T>)>) -> Option<usize>
+    ensures some { IfSome result (λ n. IsFirstFor n pending.now.items) }
+    ensures none { IfNone result (length pending.now.items ≡ 0) }
 {
     if pending.is_empty() {
         return None;
@@ -23,7 +24,7 @@ pub(crate) fn first_sub<T>(pending: &[(SubId, Signal<T>)]) -> Option<usize>
 
 /// Sends the first of these to its tap, where that takes it, and whether it did.
 pub(crate) fn send_first<T: Drop>(
-    pending: &mut Vec<(SubId, Signal<T>)>,
+    pending: &mut VecDeque<(SubId, Signal<T>)>,
     outlet: &mut ToTap<T>,
     link: &Link<T>,
 ) -> bool
@@ -37,9 +38,14 @@ pub(crate) fn send_first<T: Drop>(
     if !outlet.has_room(item) {
         return false;
     }
-    let (_, signal) = pending.remove(0);
-    outlet.send(link, signal);
-    true
+    match pending.pop_front() {
+        Some((_, signal)) => {
+            outlet.send(link, signal);
+            true
+        }
+        // One waits.
+        None => false,
+    }
 }
 
 /// Whether the signal is an item.

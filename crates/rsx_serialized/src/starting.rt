@@ -15,6 +15,7 @@ use rsx_hub::Hub;
 use rsx_runtime::{Emitter, Tap};
 use rsx_types::{NoMemory, Ops};
 use std::alloc::Global;
+use std::collections::VecDeque;
 
 /// How many places for subscriptions to come a graph may be started with.
 pub const MOST_PLACES: u32 = 64;
@@ -123,7 +124,7 @@ fn begin<O: Ops>(
         graph,
         inlets: emitters.inlets,
         outlets: taps.outlets,
-        pending: Vec::new(alloc),
+        pending: VecDeque::new(alloc),
         spare: taps.spare,
     };
     let links = Links {

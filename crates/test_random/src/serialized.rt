@@ -299,7 +299,7 @@ pub fn taken_out(
         pending,
         spare: _,
     } = region;
-    for (sub, signal) in pending {
+    for (sub, signal) in pending.into_vec() {
         told.received.push((sub.0, signal))?;
     }
     Ok((graph, left))

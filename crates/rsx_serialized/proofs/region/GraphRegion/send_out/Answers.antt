@@ -6,7 +6,7 @@ use Rattle.rsx_serialized.proofs.Rounds.{busy_then, then_busy}
 use Rattle.rsx_serialized.proofs.region.GraphRegion.send_out.Goals as goal
 
 pub loop-signal-init : goal.loop-signal-init
-loop-signal-init g c = record { goes = region_same c.args.links.now c.args.self.now c.requires; still = still_same c.args.self.now.outlets.items; same = refl; none = λ e. (refl, refl); busy = λ e. cc; count = search rules }
+loop-signal-init g c = record { goes = region_same c.args.links.now c.args.self.now c.requires; still = still_same c.args.self.now.outlets.items; same = refl; none = λ e. (refl, refl); busy = λ e. cc; left = omega arith; count = search rules }
 
 pub returns-then-not-send_one-clause-goes : goal.returns-then-not-send_one-clause-goes
 returns-then-not-send_one-clause-goes g c = region_on c.args.links.now c.args.self.now c.loop-signal.self c.send_one.new.self c.loop-signal.invariant.goes c.send_one.ensures.goes
@@ -29,8 +29,19 @@ loop-signal-preserved g c = record {
   same = c.send_one.ensures.same ∙ c.loop-signal.invariant.same;
   none = λ e. cc;
   busy = λ e. then_busy c.args.self.now c.loop-signal.self c.send_one.new.self c.loop-signal.invariant.goes.1 (c.send_one.ensures.busy (search rules));
+  left = let fewer = c.send_one.ensures.fewer (search rules) in let left = c.loop-signal.invariant.left in omega (arith, fewer, left);
   count = c.loop-signal.invariant.count;
 }
+
+pub returns-then-not-send_one-clause-held : goal.returns-then-not-send_one-clause-held
+returns-then-not-send_one-clause-held g c = (c.send_one.ensures.none (search rules)).held
+
+pub returns-clause-held : goal.returns-clause-held
+returns-clause-held g c =
+    let count = c.loop-signal.invariant.count in
+    let left = c.loop-signal.invariant.left in
+    let empty : length c.loop-signal.self.pending.items ≡ 0 = omega (arith, count, left, c.loop-signal-test.false) in
+    none_held c.loop-signal.self.pending.items c.loop-signal.self.outlets.items empty
 
 pub returns-clause-none : goal.returns-clause-none
 returns-clause-none g c e =

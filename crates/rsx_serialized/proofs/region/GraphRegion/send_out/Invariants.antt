@@ -1,4 +1,4 @@
-use Rattle.std.proofs.Common.{◌≡◌, false, length, true}
+use Rattle.std.proofs.Common.{◌≡◌, ◌+◌, false, length, true}
 use Rattle.rsx_serialized.specs.Regions.{GoesOn}
 use Rattle.rsx_serialized.specs.Resting.{AreStill}
 use Rattle.rsx_serialized.specs.Rounds.{IsBusy}
@@ -11,5 +11,6 @@ invariant-loop-signal g l = record {
   same : l.self.graph ≡ l.fn.self.graph;
   none : l.sent ≡ false → (l._signal ≡ 0) × (l.self ≡ l.fn.self);
   busy : l.sent ≡ true → IsBusy (g.O.Ops.meaning l.fn.self.graph.ops) l.fn.self l.self;
+  left : length l.self.pending.items + l._signal ≡ length l.fn.self.pending.items;
   count : l._signal-end ≡ length l.fn.self.pending.items;
 }

@@ -9,13 +9,13 @@ loop-at-init g c = record { goes = region_same c.args.links.now c.args.self.now 
 
 pub loop-at-preserved : goal.loop-at-preserved
 loop-at-preserved g c = record {
-  goes = region_on c.args.links.now c.args.self.now c.loop-at.self c.take_at-taken.new.self c.loop-at.invariant.goes c.take_at-taken.ensures.goes;
-  none = λ e. let both = neither c.loop-at.taken c.take_at-taken.result e in left_next c.loop-at.at c.args.self.now c.loop-at.self c.take_at-taken.new.self (c.loop-at.invariant.none both.0) (c.take_at-taken.ensures.none both.1);
-  busy = λ e. either_busy c.loop-at.taken c.take_at-taken.result c.args.self.now c.loop-at.self c.take_at-taken.new.self c.loop-at.invariant.busy c.take_at-taken.ensures.busy c.loop-at.invariant.goes.1 c.take_at-taken.ensures.goes.1 e;
-  pending = c.take_at-taken.ensures.aside.0 ∙ c.loop-at.invariant.pending;
-  outlets = c.take_at-taken.ensures.aside.1 ∙ c.loop-at.invariant.outlets;
-  joins = c.take_at-taken.ensures.aside.2 ∙ c.loop-at.invariant.joins;
-  count = c.loop-at.invariant.count ∙ sym c.take_at-taken.ensures.count;
+  goes = region_on c.args.links.now c.args.self.now c.loop-at.self c.take_from-taken.new.self c.loop-at.invariant.goes c.take_from-taken.ensures.goes;
+  none = λ e. let both = neither c.loop-at.taken c.take_from-taken.result e in left_next c.loop-at.at c.args.self.now c.loop-at.self c.take_from-taken.new.self (c.loop-at.invariant.none both.0) (c.take_from-taken.ensures.none both.1);
+  busy = λ e. either_busy c.loop-at.taken c.take_from-taken.result c.args.self.now c.loop-at.self c.take_from-taken.new.self c.loop-at.invariant.busy c.take_from-taken.ensures.busy c.loop-at.invariant.goes.1 c.take_from-taken.ensures.goes.1 e;
+  pending = c.take_from-taken.ensures.aside.0 ∙ c.loop-at.invariant.pending;
+  outlets = c.take_from-taken.ensures.aside.1 ∙ c.loop-at.invariant.outlets;
+  joins = c.take_from-taken.ensures.aside.2 ∙ c.loop-at.invariant.joins;
+  count = c.loop-at.invariant.count ∙ sym c.take_from-taken.ensures.count;
 }
 
 pub returns-clause-none : goal.returns-clause-none
