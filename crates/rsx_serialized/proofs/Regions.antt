@@ -1,5 +1,5 @@
 -- What single steps of a region do to its ends.
-use Rattle.std.proofs.Common.{◌≡◌, inl, inr, ℕ, ◌+◌, ◌≤◌, ◌<◌, Bool, true, false, ◌||◌, List, [], ◌∷◌, ◌++◌, map, length, refl, ap, sym, ◌∙◌, subst, arith, min, get_or, Result, Some, slice_get, slice_set}
+use Rattle.std.proofs.Common.{◌≡◌, inl, inr, ℕ, ◌+◌, ◌≤◌, ◌<◌, Bool, true, false, ◌||◌, List, [], ◌∷◌, ◌++◌, map, length, refl, ap, sym, ◌∙◌, subst, arith, get_or, Result, Some, slice_get, slice_set}
 use Rattle.std.proofs.lemmas.Grind.{flat_map-append}
 use Rattle.std.proofs.lemmas.Option.{slice_get_read}
 use Rattle.std.proofs.lemmas.List.{append-nil}
@@ -15,7 +15,7 @@ use Rattle.rsx_graph.specs.declared.graph.Graph.{Graph}
 use Rattle.rsx_graph_state.specs.declared.refusal.Refusal.{Refusal}
 use Rattle.rsx_graph_state.specs.declared.step.Pumped.{Pumped}
 use Rattle.rsx_link.specs.Ends.{IsCancelSeatOf, IsDownOf, IsUpOf, carried_up, received_signals, sent_signals, up_steps}
-use Rattle.rsx_link.specs.Steps.{flags_of, has_cancel, has_refusal, seen_of}
+use Rattle.rsx_link.specs.Steps.{flags_of, has_cancel, has_refusal}
 use Rattle.rsx_link.specs.declared.cancel.CancelSeat.{CancelSeat}
 use Rattle.rsx_link.specs.declared.link.Link.{Link}
 use Rattle.rsx_runtime.specs.declared.tap.Tap.{Tap}

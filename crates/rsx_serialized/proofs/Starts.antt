@@ -1,5 +1,5 @@
 -- Links that are opened one after the other, and the graph that is put between them.
-use Rattle.std.proofs.Common.{◌≡◌, inl, inr, ℕ, zero, suc, ◌+◌, ◌-◌, ◌^◌, ◌<◌, ◌≤◌, Bool, true, false, if◌then◌else◌, nat_eq, eq-eqb, not, List, [], ◌∷◌, ◌++◌, length, length-append, map, refl, ap, sym, ◌∙◌, subst, arith, add-one, Option, None, Some, option_map, slice_get, Global, Result, Ok, Err, OnOk, IfErr, IfOk, min}
+use Rattle.std.proofs.Common.{◌≡◌, inl, inr, ℕ, zero, suc, ◌+◌, ◌-◌, ◌^◌, ◌<◌, ◌≤◌, Bool, true, false, if◌then◌else◌, nat_eq, eq-eqb, not, List, [], ◌∷◌, ◌++◌, length, length-append, map, refl, ap, sym, ◌∙◌, subst, arith, add-one, Option, None, Some, option_map, slice_get, Result, Ok, Err, OnOk, IfErr, IfOk, min}
 use Rattle.std.proofs.lemmas.Bool.{ne_eqb}
 use Rattle.std.proofs.lemmas.List.{append-nil, length-map, map-append}
 use Rattle.std.proofs.lemmas.Option.{slice_get_within}
@@ -8,7 +8,6 @@ use Rattle.rsx_types.specs.declared.limits.TheConstants.{CAPACITY}
 use Rattle.rsx_types.specs.declared.names.HubId.{HubId}
 use Rattle.rsx_types.specs.declared.names.SubId.{SubId}
 use Rattle.rsx_types.specs.declared.ops.Ops.{Ghosts as Ops}
-use Rattle.rsx_types.specs.declared.signal.Signal.{Signal}
 use Rattle.atomic_table.specs.declared.shared.Seat.{Seat}
 use Rattle.rsx_gate.specs.Machine.{all_parts}
 use Rattle.rsx_gate.specs.declared.view.View.{View}

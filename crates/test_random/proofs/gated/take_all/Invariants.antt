@@ -2,4 +2,4 @@ use Rattle.rsx_serialized.specs.Started.{IsStarted}
 use Rattle.test_random.proofs.gated.take_all.Given as goal
 
 abbrev pub invariant-loop-sub : goal.invariant-loop-sub
-invariant-loop-sub l = IsStarted l.started
+invariant-loop-sub g l = IsStarted l.started

@@ -1,4 +1,4 @@
-use Rattle.std.proofs.Common.{◌≡◌, ◌∙◌, List, [], ap, false, length, refl, rules, deque_len, arith}
+use Rattle.std.proofs.Common.{◌≡◌, ◌∙◌, ap, length, refl, rules, deque_len, arith}
 use Rattle.rsx_graph.specs.InGraph.{state_of}
 use Rattle.rsx_serialized.proofs.Closes.{none_left}
 use Rattle.rsx_serialized.proofs.Goes.{region_on}

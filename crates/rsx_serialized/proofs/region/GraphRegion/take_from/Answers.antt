@@ -1,4 +1,4 @@
-use Rattle.std.proofs.Common.{◌<◌, length, refl, rules, subst, sym, ◌∙◌, arith}
+use Rattle.std.proofs.Common.{refl, rules, subst, ◌∙◌, arith}
 use Rattle.rsx_serialized.specs.Resting.{HasLeftOne}
 use Rattle.rsx_serialized.proofs.Goes.{region_on, region_same}
 use Rattle.rsx_serialized.proofs.Rounds.{busy_then, then_busy}
