@@ -4,7 +4,7 @@ ghost use Rattle.std.specs.Prelude.{◌≡◌, IfSome, true};
 
 use crate::sink::Sink;
 use rsx_sources::{Front, Machine, NotMade};
-use rsx_tree::{Edge, Node, NodeMove};
+use rsx_tree::{Edge, Inputs, Node, NodeMove};
 use rsx_types::{NoMemory, Ops, Signal};
 use std::alloc::Global;
 
@@ -330,13 +330,24 @@ impl<M: Machine> Rooted<M> {
         ensures ok { IfOk result (λ o. IsFetched M.Machine (O.meaning ops.now) left.old self.old o left.new self.new) }
         ensures err { OnErr result (IsFetched M.Machine (O.meaning ops.now) left.old self.old None left.new self.new) }
     {
-        let step = match self.tree.first_step(&self.root) {
-            Some(step) => step,
-            None => return Ok(None),
-        };
+        let mut first = None;
+        // A root with several inputs gives an item out at most calls, others seldom do, and then it is cheaper to look for a step first.
+        if !has_several(&self.tree.inputs) {
+            first = self.tree.first_step(&self.root);
+            if first.is_none() {
+                return Ok(None);
+            }
+        }
         if let Some(item) = self.step_out(alloc, ops, left) {
             return Ok(Some(item));
         }
+        let step = match first {
+            Some(step) => step,
+            None => match self.tree.first_step(&self.root) {
+                Some(step) => step,
+                None => return Ok(None),
+            },
+        };
         match self.make_step(alloc, ops, step) {
             Ok(true) => {
                 *left = *left - 1;
@@ -542,5 +553,17 @@ impl<M: Machine> Rooted<M> {
             Some(step) => false,
             None => true,
         }
+    }
+}
+
+/// Whether a node with these inputs has several. The answer promises nothing.
+#[inline]
+fn has_several<M>(inputs: &Inputs<M>) -> bool {
+    match inputs {
+        Inputs::End => false,
+        Inputs::More(_, _, _, beside) => match &**beside {
+            Inputs::End => false,
+            Inputs::More(_, _, _, _) => true,
+        },
     }
 }
