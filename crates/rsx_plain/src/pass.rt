@@ -130,6 +130,7 @@ impl<T: Drop> Through for T {
         }
     }
 
+    #[inline]
     fn through_buffer<O: Ops<Item = T>>(
         self,
         alloc: Global,
@@ -169,6 +170,7 @@ impl<T: Drop> Through for T {
         }
     }
 
+    #[inline]
     fn through_distinct<O: Ops<Item = T>>(
         self,
         ops: &O,

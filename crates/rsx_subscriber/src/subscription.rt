@@ -478,13 +478,17 @@ impl<N: Nodes<Item = T>, T: Drop> Subscription<N, T> {
                 Ok(Pumped::Budget) => return Ok(Pumped::Budget),
                 Err(NoMemory) => return Err(NoMemory),
             };
-            left = match self.deliver(id, before, out) {
+            let behind = match self.deliver(id, before, out) {
                 Ok(left) => left,
                 Err(NoMemory) => return Err(NoMemory),
             };
-            if left == before {
-                return Ok(self.rest(left));
+            if behind == before {
+                return Ok(self.rest(behind));
             }
+            left = match self.fetch(alloc, ops, id, behind, out) {
+                Ok(left) => left,
+                Err(NoMemory) => return Err(NoMemory),
+            };
         }
         Ok(self.rest(left))
     }
