@@ -1,9 +1,9 @@
 -- Moves keep of which hub each feed is.
 use Rattle.rsx_sources.specs.declared.machine.Machine.{Ghosts as Machine}
 use Rattle.rsx_rooted.specs.declared.nodes.Nodes.{Ghosts as Nodes}
-use Rattle.std.proofs.Common.{◌≡◌, ℕ, zero, suc, Bool, true, false, List, [], ◌∷◌, map, slice_get, Option, Some, None, refl, ap, sym, ◌∙◌}
+use Rattle.std.proofs.Common.{◌≡◌, ℕ, zero, suc, Bool, true, false, nat_eq, if◌then◌else◌, List, [], ◌∷◌, map, slice_get, Option, Some, None, option_map, refl, ap, sym, ◌∙◌}
 use Rattle.std.proofs.Math.ListN.{set}
-use Rattle.rsx_graph_state.specs.Prelude.{IsAcceptedAt, IsFedAt, IsFeedMoved, IsMadeInFeed, IsMovedBy, is_out, Rows, AllFeedsHanded}
+use Rattle.rsx_graph_state.specs.Prelude.{IsAcceptedAt, IsFedAt, IsFeedMoved, IsMadeInFeed, IsMovedBy, is_out, place_of, Rows, AllFeedsHanded}
 use Rattle.rsx_pipe.proofs.Signals.{some_same}
 use Rattle.rsx_graph_state.specs.declared.feed.Feed.{Feed}
 use Rattle.rsx_tree.specs.declared.look.NodeMove.{NodeMove}
@@ -76,3 +76,16 @@ moved_keep mc kd m (Accept h) old new o k = accepted_keep mc h.0 old new k
 
 pub lead_keep : {M T : Type 0} (mc : Machine M T) (kd : Nodes M T) (m : Meaning T) (old : Rows M T) (moves : List (Made T)) (new : Rows M T) → LeadTo mc kd m old moves new → KeepHubs old new
 lead_keep mc kd m old moves new k = leads_keep (IsMoveMade mc kd m) (λ g. KeepHubs old g) (λ a b d made kept. moved_keep mc kd m d.move a b d.delivered made.effect ∙ kept) old new moves k refl
+
+-- ---- where a feed stands
+
+abbrev place_in : List ℕ → ℕ → Option ℕ
+place_in [] h = None
+place_in (n ∷ ns) h = if nat_eq n h then Some 0 else option_map suc (place_in ns h)
+
+by_hubs : {M : Type 0} (fs : List (Feed M)) (h : ℕ) → place_of fs h ≡ place_in (hubs_of fs) h
+by_hubs [] h = refl
+by_hubs (f ∷ fs) h = ap (λ o. if nat_eq f.hub h then Some 0 else option_map suc o) (by_hubs fs h)
+
+pub place_kept : {M T : Type 0} (old new : Rows M T) (h : ℕ) → KeepHubs old new → place_of new.feeds h ≡ place_of old.feeds h
+place_kept old new h k = by_hubs new.feeds h ∙ (ap (λ l. place_in l h) k ∙ sym (by_hubs old.feeds h))

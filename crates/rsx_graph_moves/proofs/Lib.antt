@@ -7,6 +7,7 @@ pub mod IdleSets
 pub mod Keeping
 pub mod Lacking
 pub mod Leaves
+pub mod Moved
 pub mod Named
 pub mod Opened
 pub mod Pictures

@@ -1,18 +1,18 @@
 -- The moves of a hub, by their names.
 use Rattle.rsx_sources.specs.declared.machine.Machine.{Ghosts as Machine}
 use Rattle.rsx_rooted.specs.declared.nodes.Nodes.{Ghosts as Nodes}
-use Rattle.std.proofs.Common.{◌≡◌, ℕ, ◌<◌, Bool, true, false, ◌&&◌, nat_eq, if◌then◌else◌, List, [], ◌∷◌, length, slice_get, Option, Some, None, option_map, is_some, is_none, zero, suc, refl, ap, sym, ◌∙◌, arith}
-use Rattle.rsx_graph_state.specs.Prelude.{accepts_at, accepts_in, feed_enabled, has_feed, is_out, sends, sends_where, works, works_where, Rows, feed_of, place_of, HubState, waiting, all_have_room, can_accept, can_feed, can_feed_at, can_feed_of, Subscription}
-use Rattle.rsx_subscriber.specs.Prelude.{route, IsQuietInside, inside_enabled, IsNumbered, delivery, inside_node, node_move, node_of, tree_of, IsMadeAnswer, NodeMove, Ask as NodeAsk, Send as NodeSend, Pick as NodePick, Row as NodeRow}
+use Rattle.std.proofs.Common.{◌≡◌, ℕ, ◌<◌, Bool, true, false, ◌&&◌, nat_eq, if◌then◌else◌, List, [], ◌∷◌, length, slice_get, Option, Some, None, option_map, is_some, is_none, zero, suc, refl, ap, sym, ◌∙◌, subst, arith}
+use Rattle.rsx_graph_state.specs.Prelude.{History, IsFeedMoved, accepts_at, accepts_in, feed_enabled, has_feed, is_out, sends, sends_where, sent_by, works, works_where, with_made, with_moved, with_sent, Rows, feed_of, place_of, HubState, waiting, all_have_room, can_accept, can_feed, can_feed_at, can_feed_of, takes_next, Subscription}
+use Rattle.rsx_subscriber.specs.Prelude.{route, IsQuietInside, inside_enabled, next_out, IsNumbered, delivery, inside_node, node_move, node_of, tree_of, IsMadeAnswer, NodeMove, Ask as NodeAsk, Send as NodeSend, Pick as NodePick, Row as NodeRow}
 use Rattle.rsx_pipe.specs.Part as Part
 use Rattle.rsx_graph_state.specs.declared.feed.Feed.{Feed}
 use Rattle.rsx_subscriber.proofs.Names.{name_move, name_node, name_tree, numbered_inside}
-use Rattle.rsx_sources.specs.Prelude.{Meaning, HubId, Move, Ask, Send, Take, Pick, Row, Accept, NodeId, SubId, Sub, Feed as FeedOf, Signal, front_of}
+use Rattle.rsx_sources.specs.Prelude.{Meaning, HubId, Move, Ask, Send, Take, Pick, Row, Accept, NodeId, SubId, Tree, Sub, Feed as FeedOf, Signal, front_of}
 use Rattle.rsx_sources.specs.declared.machine.Front.{Front}
 use Rattle.rsx_graph_state.proofs.Calls.{accepts_there}
 use Rattle.rsx_graph_state.proofs.Places.{unfed_there}
 use Rattle.rsx_graph_state.proofs.Ready.{none_ready}
-use Rattle.rsx_graph_moves.specs.Moves.{enabled_in_tree, feed_move, feed_move_enabled, is_enabled, move_in, name_in}
+use Rattle.rsx_graph_moves.specs.Moves.{IsMoved, IsMovedInFeed, IsMovedInTree, enabled_in_tree, feed_move, feed_move_enabled, is_enabled, move_in, name_in, sent, sent_by_feed, sent_in_tree}
 use Rattle.rsx_graph_moves.specs.Pumped.{IsHubQuiet}
 
 -- ---- a move of a feed, by its names
@@ -47,15 +47,48 @@ pub name_enabled : {M T : Type 0} (mc : Machine M T) (kd : Nodes M T) (m : Meani
 name_enabled mc kd m g h f inside there =
     enabled_named mc kd m g h inside (name_in kd f h inside) (name_in_tree kd f h inside) (name_inside kd g.feeds h f inside there)
 
--- a move of a feed delivers nothing
-pub nothing_delivered : {T : Type 0} (h : HubId) (mv : Move) (o : Option (SubId × Signal T)) → tree_of mv ≡ FeedOf h → IsMadeAnswer mv o → o ≡ None
-nothing_delivered h (Ask t n) o e k = k
-nothing_delivered h (Send t n) o e k = k
-nothing_delivered h (Take (Sub i) n) o e k = cc
-nothing_delivered h (Take (FeedOf i) n) o e k = k
-nothing_delivered h (Pick t n i) o e k = k
-nothing_delivered h (Row t n) o e k = k
-nothing_delivered h (Accept i) o e k = k
+-- it delivers nothing
+pub named_answer : {T : Type 0} (h : HubId) (mv : Move) (o : Option (SubId × Signal T)) → tree_of mv ≡ FeedOf h → o ≡ None → IsMadeAnswer mv o
+named_answer h (Ask t n) o e k = k
+named_answer h (Send t n) o e k = k
+named_answer h (Take (Sub i) n) o e k = cc
+named_answer h (Take (FeedOf i) n) o e k = k
+named_answer h (Pick t n i) o e k = k
+named_answer h (Row t n) o e k = k
+named_answer h (Accept i) o e k = k
+
+-- it does what that move does
+pub named_moved : {M T : Type 0} (mc : Machine M T) (kd : Nodes M T) (m : Meaning T) (old new : Rows M T) (h : HubId) (inside : NodeMove) (mv : Move) → tree_of mv ≡ FeedOf h → feed_move kd old.feeds h.0 mv ≡ Some inside → IsFeedMoved mc m inside h.0 old new → IsMoved mc kd m mv old new None
+named_moved {M} {T} mc kd m old new h inside mv tree node k = by_move mv tree node
+  where
+    in_tree : (t : Tree) (mv : Move) → t ≡ FeedOf h → feed_move kd old.feeds h.0 mv ≡ Some inside → IsMovedInTree mc kd m mv t old new None
+    in_tree t mv e same =
+        let P : Option NodeMove → Type 0 = λ o. IsMovedInFeed mc m o h.0 old new in
+        let Q : Tree → Type 0 = λ x. IsMovedInTree mc kd m mv x old new None in
+        subst Q (sym e) (subst P (sym same) k)
+
+    by_move : (mv : Move) → tree_of mv ≡ FeedOf h → feed_move kd old.feeds h.0 mv ≡ Some inside → IsMoved mc kd m mv old new None
+    by_move (Ask t n) e same = in_tree t (Ask t n) e same
+    by_move (Send t n) e same = in_tree t (Send t n) e same
+    by_move (Take t n) e same = in_tree t (Take t n) e same
+    by_move (Pick t n i) e same = in_tree t (Pick t n i) e same
+    by_move (Row t n) e same = in_tree t (Row t n) e same
+    by_move (Accept i) e same = let none = sym (no_accept kd (feed_of old.feeds h.0) i) ∙ same in cc
+
+-- and the same has happened by it
+pub named_happened : {M T : Type 0} (mc : Machine M T) (kd : Nodes M T) (m : Meaning T) (g : Rows M T) (h : HubId) (inside : NodeMove) (mv : Move) (x : History T) → tree_of mv ≡ FeedOf h → feed_move kd g.feeds h.0 mv ≡ Some inside → with_made mv None (sent mc kd m g mv) x ≡ with_sent (sent_by mc m g inside h.0) h.0 x
+named_happened {M} {T} mc kd m g h inside mv x tree node = by_move mv tree node
+  where
+    in_tree : (t : Tree) (mv : Move) → t ≡ FeedOf h → feed_move kd g.feeds h.0 mv ≡ Some inside → with_moved t None (sent_in_tree mc kd m g t mv) x ≡ with_sent (sent_by mc m g inside h.0) h.0 x
+    in_tree t mv e same = ap (λ k. with_moved k None (sent_in_tree mc kd m g k mv) x) e ∙ ap (λ o. with_sent (sent_by_feed mc m g h.0 o) h.0 x) same
+
+    by_move : (mv : Move) → tree_of mv ≡ FeedOf h → feed_move kd g.feeds h.0 mv ≡ Some inside → with_made mv None (sent mc kd m g mv) x ≡ with_sent (sent_by mc m g inside h.0) h.0 x
+    by_move (Ask t n) e same = in_tree t (Ask t n) e same
+    by_move (Send t n) e same = in_tree t (Send t n) e same
+    by_move (Take t n) e same = in_tree t (Take t n) e same
+    by_move (Pick t n i) e same = in_tree t (Pick t n i) e same
+    by_move (Row t n) e same = in_tree t (Row t n) e same
+    by_move (Accept i) e same = let none = sym (no_accept kd (feed_of g.feeds h.0) i) ∙ same in cc
 
 -- the Take of a root is that which delivers
 pub root_take : (i : SubId) (n : NodeId) → n.0 ≡ 0 → delivery i ≡ Take (Sub i) n
@@ -96,16 +129,16 @@ empty_quiet mc m g h hub o there place front none =
 
 -- ---- a hub with a feed
 
+sends_is : {M T : Type 0} (mc : Machine M T) (m : Meaning T) (g : Rows M T) (h : ℕ) (hub : HubState T) (f : Feed M) → slice_get g.hubs h ≡ Some hub → feed_of g.feeds h ≡ Some f → sends mc m g h ≡ can_feed mc m f hub g.feeds g.subs
+sends_is mc m g h hub f there named = ap (λ o. sends_where mc m g o (feed_of g.feeds h)) there ∙ ap (λ o. sends_where mc m g (Some hub) o) named
+
 pub fed_enabled : {M T : Type 0} (mc : Machine M T) (m : Meaning T) (g : Rows M T) (h : ℕ) (hub : HubState T) (f : Feed M) (step : NodeMove) → slice_get g.hubs h ≡ Some hub → feed_of g.feeds h ≡ Some f → feed_enabled mc m g h step ≡ (if is_out step then can_feed mc m f hub g.feeds g.subs else inside_enabled mc m f.part step)
 fed_enabled {M} {T} mc m g h hub f step there named =
     ap (λ b. b && (if is_out step then sends mc m g h else works mc m g.feeds h step)) known
-    ∙ (ap (λ b. if is_out step then b else works mc m g.feeds h step) send ∙ ap (λ o. if is_out step then can_feed mc m f hub g.feeds g.subs else works_where mc m o step) named)
+    ∙ (ap (λ b. if is_out step then b else works mc m g.feeds h step) (sends_is mc m g h hub f there named) ∙ ap (λ o. if is_out step then can_feed mc m f hub g.feeds g.subs else works_where mc m o step) named)
   where
     known : has_feed g h ≡ true
     known = ap (λ o. is_some o && is_some (feed_of g.feeds h)) there ∙ ap is_some named
-
-    send : sends mc m g h ≡ can_feed mc m f hub g.feeds g.subs
-    send = ap (λ o. sends_where mc m g o (feed_of g.feeds h)) there ∙ ap (λ o. sends_where mc m g (Some hub) o) named
 
 pub feeds_there : {M T : Type 0} (mc : Machine M T) (m : Meaning T) (at : ℕ) (hub : HubState T) (f : Feed M) (feeds fs : List (Feed M)) (subs olds : List (Subscription M T)) (b can : Bool) → slice_get feeds at ≡ Some f → fs ≡ feeds → olds ≡ subs → can ≡ can_feed_at mc m at hub fs olds → can ≡ b → can_feed mc m f hub feeds subs ≡ b
 feeds_there mc m at hub f feeds fs subs olds b can there same all is e =
@@ -121,30 +154,38 @@ fed_quiet {M} {T} mc m g h hub f there named quiet rest = record {
     none true c e = rest
     none false c e = e
 
--- a move inside, which is no Send over the root edge
-pub inside_of_feed : {M T : Type 0} (mc : Machine M T) (m : Meaning T) (g : Rows M T) (h : ℕ) (f : Feed M) (step : NodeMove) → h < length g.hubs → feed_of g.feeds h ≡ Some f → inside_enabled mc m f.part step ≡ true → feed_enabled mc m g h step ≡ true
-inside_of_feed {M} {T} mc m g h f step within named can = fed_enabled mc m g h hub.0 f step hub.1 named ∙ by_step step can
+-- a move inside is no Send over the root edge
+pub not_out : {M T : Type 0} (mc : Machine M T) (m : Meaning T) (f : Feed M) (step : NodeMove) → inside_enabled mc m f.part step ≡ true → is_out step ≡ false
+not_out mc m f (NodeAsk n) e = refl
+not_out mc m f (NodeSend n) e = below (nat_eq n 0) _ e
   where
-    there : {A : Type 0} (xs : List A) (n : ℕ) → n < length xs → (x : A) × (slice_get xs n ≡ Some x)
-    there [] n l = absurd (omega (arith, l))
-    there (x ∷ xs) zero l = (x, refl)
-    there (x ∷ xs) (suc n) l = there xs n (omega (arith, l))
+    below : (b x : Bool) → (if b then false else x) ≡ true → b ≡ false
+    below true x e = cc
+    below false x e = refl
+not_out mc m f (NodePick n i) e = refl
+not_out mc m f (NodeRow n) e = refl
 
-    hub : (x : HubState T) × (slice_get g.hubs h ≡ Some x)
-    hub = there g.hubs h within
+there : {A : Type 0} (xs : List A) (n : ℕ) → n < length xs → (x : A) × (slice_get xs n ≡ Some x)
+there [] n l = absurd (omega (arith, l))
+there (x ∷ xs) zero l = (x, refl)
+there (x ∷ xs) (suc n) l = there xs n (omega (arith, l))
 
-    not_out : (n : ℕ) (x y : Bool) → (if nat_eq n 0 then false else x) ≡ true → (if nat_eq n 0 then y else (if nat_eq n 0 then false else x)) ≡ true
-    not_out n x y e = by_test (nat_eq n 0) e
-      where
-        by_test : (b : Bool) → (if b then false else x) ≡ true → (if b then y else (if b then false else x)) ≡ true
-        by_test true e = cc
-        by_test false e = e
+pub inside_of_feed : {M T : Type 0} (mc : Machine M T) (m : Meaning T) (g : Rows M T) (h : ℕ) (f : Feed M) (step : NodeMove) → h < length g.hubs → feed_of g.feeds h ≡ Some f → inside_enabled mc m f.part step ≡ true → feed_enabled mc m g h step ≡ true
+inside_of_feed mc m g h f step within named can =
+    let hub = there g.hubs h within in
+    fed_enabled mc m g h hub.0 f step hub.1 named ∙ (ap (λ b. if b then can_feed mc m f hub.0 g.feeds g.subs else inside_enabled mc m f.part step) (not_out mc m f step can) ∙ can)
 
-    by_step : (step : NodeMove) → inside_enabled mc m f.part step ≡ true → (if is_out step then can_feed mc m f hub.0 g.feeds g.subs else inside_enabled mc m f.part step) ≡ true
-    by_step (NodeAsk n) e = e
-    by_step (NodeSend n) e = not_out n _ _ e
-    by_step (NodePick n i) e = e
-    by_step (NodeRow n) e = e
+-- nothing can be done inside, and no Send
+pub sent_quiet : {M T : Type 0} (mc : Machine M T) (m : Meaning T) (g : Rows M T) (h : ℕ) (f : Feed M) → h < length g.hubs → feed_of g.feeds h ≡ Some f → IsQuietInside mc m f.part → sends mc m g h ≡ false → IsHubQuiet mc m g h
+sent_quiet mc m g h f within named quiet rest =
+    let hub = there g.hubs h within in
+    fed_quiet mc m g h hub.0 f hub.1 named quiet (sym (sends_is mc m g h hub.0 f hub.1 named) ∙ rest)
+
+-- the same where its root edge carries nothing
+pub silent_quiet : {M T : Type 0} (mc : Machine M T) (m : Meaning T) (g : Rows M T) (h : ℕ) (f : Feed M) → h < length g.hubs → feed_of g.feeds h ≡ Some f → IsQuietInside mc m f.part → next_out mc m f.part ≡ None → IsHubQuiet mc m g h
+silent_quiet mc m g h f within named quiet none =
+    let hub = there g.hubs h within in
+    fed_quiet mc m g h hub.0 f hub.1 named quiet (ap (λ o. takes_next o hub.0 (all_have_room mc f.hub g.feeds g.subs)) none)
 
 -- the Send over the root edge
 pub out_of_feed : {M T : Type 0} (mc : Machine M T) (m : Meaning T) (g : Rows M T) (h : ℕ) (hub : HubState T) (f : Feed M) → slice_get g.hubs h ≡ Some hub → feed_of g.feeds h ≡ Some f → can_feed mc m f hub g.feeds g.subs ≡ true → feed_enabled mc m g h (NodeSend 0) ≡ true

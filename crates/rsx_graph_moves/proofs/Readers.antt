@@ -1,13 +1,12 @@
 -- A hub wakes only those subscriptions of which some node reads it.
 use Rattle.rsx_sources.specs.declared.machine.Machine.{Ghosts as Machine}
 use Rattle.rsx_rooted.specs.declared.nodes.Nodes.{Ghosts as Nodes}
-use Rattle.std.proofs.Common.{◌≡◌, ℕ, zero, suc, ◌+◌, ◌<◌, ◌⊎◌, inl, inr, ◌&&◌, nat_eq, Bool, true, false, if◌then◌else◌, List, [], ◌∷◌, length, slice_get, Option, Some, None, Result, Ok, ◌≤◌, refl, ap, sym, ◌∙◌, subst, arith}
+use Rattle.std.proofs.Common.{◌≡◌, ℕ, zero, suc, ◌+◌, ◌<◌, ◌⊎◌, inl, inr, ◌&&◌, nat_eq, Bool, true, false, if◌then◌else◌, List, [], ◌∷◌, length, slice_get, Some, Result, Ok, ◌≤◌, refl, ap, sym, ◌∙◌, subst, arith}
 use Rattle.rsx_types.specs.Meaning.{Meaning}
-use Rattle.rsx_sources.specs.Prelude.{HubId, Move, Ask, Send, Take, Pick, Row, Accept, SubId, Tree, Sub, Feed as FeedOf, Signal, reads_hub}
+use Rattle.rsx_sources.specs.Prelude.{Signal, reads_hub}
 use Rattle.rsx_tree.specs.declared.edge.EdgeState.{EdgeState}
 use Rattle.rsx_tree.specs.declared.edge.EdgeState.TheVariants.{Live, Ended, Closed}
 use Rattle.rsx_tree.specs.declared.inputs.Inputs.{Inputs, End, More'}
-use Rattle.rsx_tree.specs.declared.look.NodeMove.{NodeMove}
 use Rattle.rsx_tree.specs.declared.node.Node.{Node}
 use Rattle.rsx_tree.specs.Edges.{is_live}
 use Rattle.rsx_tree.specs.Handed as Tree
@@ -17,13 +16,10 @@ use Rattle.rsx_pipe.specs.Part.{Part as PartOf}
 use Rattle.rsx_pipe.specs.Published as Published
 use Rattle.rsx_pipe.specs.Published.{readers}
 use Rattle.rsx_subscriber.specs.Published.{IsHanded}
-use Rattle.rsx_subscriber.specs.Prelude.{IsQuiet, delivers, tree_of}
+use Rattle.rsx_subscriber.specs.Prelude.{IsQuiet, delivers}
 use Rattle.rsx_subscriber.specs.declared.subscription.Subscription.{Subscription}
 use Rattle.rsx_graph_state.specs.Lists.{AllChanged}
-use Rattle.rsx_graph_state.specs.Prelude.{AllHanded, IsMovedBy, Rows, is_out}
-use Rattle.rsx_graph_state.proofs.Named.{feed_named}
-use Rattle.rsx_graph_state.proofs.Places.{placed_feed}
-use Rattle.rsx_graph_moves.specs.Moves.{IsMoved, IsMovedInFeed, IsMovedInTree, feed_move}
+use Rattle.rsx_graph_state.specs.Prelude.{AllHanded, Rows}
 use Rattle.rsx_graph_state.specs.SubscriptionSet.{IsIn as IsInSet, IsSkipped, NoneReads}
 use Rattle.rsx_graph_state.specs.declared.skipped.Skipped.{Skipped}
 use Rattle.rsx_graph_state.specs.declared.subscription_set.SubscriptionSet.{SubscriptionSet}
@@ -32,7 +28,7 @@ use Rattle.rsx_graph_state.specs.declared.refusal.Refusal.{Refusal}
 use Rattle.rsx_rooted.specs.declared.rooted.Pumped.{Pumped as Rest}
 use Rattle.rsx_rooted.specs.declared.rooted.Pumped.TheVariants.{Idle as Rests'}
 use Rattle.rsx_graph_moves.specs.Pumped.{HasServed, IsHubQuiet}
-use Rattle.rsx_graph_moves.specs.Resting.{AreIdle, NoIdleReads}
+use Rattle.rsx_graph_moves.specs.Resting.{AreIdle}
 use Rattle.rsx_graph_moves.proofs.Driving.{none_made}
 use Rattle.rsx_graph_moves.specs.declared.idle_set.IdleSet.{IdleSet}
 
@@ -130,27 +126,33 @@ handed_rests mc m h s Q idle olds news all rests = (
   λ i within new e. let k = changed_from (IsHanded mc h s) olds news i new all e in none_same mc h s k.0 new (rests.2 i within k.0 k.1) k.2,
 )
 
-pub same_rests : {M T : Type 0} (mc : Machine M T) (m : Meaning T) (h : ℕ) (Q : ℕ → Type 0) (idle : IdleSet) (olds news : List (Subscription M T)) → news ≡ olds → Rests mc m h Q idle olds → Rests mc m h Q idle news
-same_rests {M} {T} mc m h Q idle olds news same rests = let P : List (Subscription M T) → Type 0 = λ l. Rests mc m h Q idle l in subst P (sym same) rests
-
-pub woken_rests : {M T : Type 0} (mc : Machine M T) (m : Meaning T) (h : ℕ) (idle : IdleSet) (subs : List (Subscription M T)) → AreIdle mc m idle subs → NoIdleReads mc h idle subs → Rests mc m h (IsIn idle) idle subs
-unfolding NoIdleReads
-woken_rests mc m h idle subs quiet none = (λ i within. within, quiet, none)
-
 -- ---- where some are skipped
 
 -- those that are skipped read nothing afterwards
-pub handed_unread : {M T : Type 0} (mc : Machine M T) (h : ℕ) (s : Signal T) (skipped : Skipped) (olds news : List (Subscription M T)) → AllHanded mc h s olds news → NoneReads mc h skipped olds → NoneReads mc h skipped news
+handed_unread : {M T : Type 0} (mc : Machine M T) (h : ℕ) (s : Signal T) (skipped : Skipped) (olds news : List (Subscription M T)) → AllHanded mc h s olds news → NoneReads mc h skipped olds → NoneReads mc h skipped news
 unfolding NoneReads
 handed_unread mc h s skipped olds news all none = λ i within new e. let k = changed_from (IsHanded mc h s) olds news i new all e in none_same mc h s k.0 new (none i within k.0 k.1) k.2
 
 -- idle ones that are skipped stay so
-pub handed_idle : {M T : Type 0} (mc : Machine M T) (m : Meaning T) (h : ℕ) (s : Signal T) (skipped : Skipped) (idle : IdleSet) (olds news : List (Subscription M T)) → AllHanded mc h s olds news → NoneReads mc h skipped olds → ((i : ℕ) → IsIn idle i → IsSkipped skipped i) → AreIdle mc m idle olds → AreIdle mc m idle news
+handed_idle : {M T : Type 0} (mc : Machine M T) (m : Meaning T) (h : ℕ) (s : Signal T) (skipped : Skipped) (idle : IdleSet) (olds news : List (Subscription M T)) → AllHanded mc h s olds news → NoneReads mc h skipped olds → ((i : ℕ) → IsIn idle i → IsSkipped skipped i) → AreIdle mc m idle olds → AreIdle mc m idle news
 unfolding NoneReads
 handed_idle mc m h s skipped idle olds news all none among quiet = (handed_rests mc m h s (IsSkipped skipped) idle olds news all (among, quiet, none)).1
 
 pub same_idle : {M T : Type 0} (mc : Machine M T) (m : Meaning T) (idle : IdleSet) (olds news : List (Subscription M T)) → news ≡ olds → AreIdle mc m idle olds → AreIdle mc m idle news
 same_idle {M} {T} mc m idle olds news same quiet = let P : List (Subscription M T) → Type 0 = λ l. AreIdle mc m idle l in subst P (sym same) quiet
+
+-- the same where each is as it was, or all got a signal
+pub moved_unread : {M T : Type 0} (mc : Machine M T) (h : ℕ) (skipped : Skipped) (olds news : List (Subscription M T)) → (news ≡ olds) ⊎ ((s : Signal T) × AllHanded mc h s olds news) → NoneReads mc h skipped olds → NoneReads mc h skipped news
+moved_unread {M} {T} mc h skipped olds news k none = elim k [
+  | inl same ↦ let P : List (Subscription M T) → Type 0 = λ l. NoneReads mc h skipped l in subst P (sym same) none
+  | inr got ↦ handed_unread mc h got.0 skipped olds news got.1 none
+]
+
+pub moved_idle : {M T : Type 0} (mc : Machine M T) (m : Meaning T) (h : ℕ) (skipped : Skipped) (idle : IdleSet) (olds news : List (Subscription M T)) → (news ≡ olds) ⊎ ((s : Signal T) × AllHanded mc h s olds news) → NoneReads mc h skipped olds → ((i : ℕ) → IsIn idle i → IsSkipped skipped i) → AreIdle mc m idle olds → AreIdle mc m idle news
+moved_idle mc m h skipped idle olds news k none among quiet = elim k [
+  | inl same ↦ same_idle mc m idle olds news same quiet
+  | inr got ↦ handed_idle mc m h got.0 skipped idle olds news got.1 none among quiet
+]
 
 pub quiet_still : {M T : Type 0} (mc : Machine M T) (m : Meaning T) (h : ℕ) (old new : Rows M T) → new ≡ old → IsHubQuiet mc m old h → IsHubQuiet mc m new h
 quiet_still {M} {T} mc m h old new same quiet = let P : Rows M T → Type 0 = λ g. IsHubQuiet mc m g h in subst P (sym same) quiet
@@ -172,11 +174,6 @@ apart_unread mc m h count idle apart skipped subs many of only quiet = λ i is s
     let k = of i (only i (omega (arith, within, many)) is) in
     (quiet i k.0 s e).1 h k.1
 
--- and so those that are kept among the idle ones don't
-pub kept_unread : {M T : Type 0} (mc : Machine M T) (m : Meaning T) (h : ℕ) (idle kept : IdleSet) (subs : List (Subscription M T)) → ((i : ℕ) → IsIn kept i → IsIn idle i × IsApart idle h i) → AreIdle mc m idle subs → NoIdleReads mc h kept subs
-unfolding AreIdle NoIdleReads
-kept_unread mc m h idle kept subs of quiet = λ i within s e. let k = of i within in (quiet i k.0 s e).1 h k.1
-
 -- one more was found not to read the hub
 pub found_idle : {M T : Type 0} (mc : Machine M T) (m : Meaning T) (h k : ℕ) (idle found : IdleSet) (subs : List (Subscription M T)) → ((i : ℕ) → IsIn found i → IsIn idle i) → ((n i : ℕ) → IsApart found n i → IsApart idle n i ⊎ ((n ≡ h) × (i ≡ k))) → ((s : Subscription M T) → slice_get subs k ≡ Some s → readers mc h s.part ≡ 0) → AreIdle mc m idle subs → AreIdle mc m found subs
 unfolding AreIdle
@@ -191,36 +188,3 @@ found_idle {M} {T} mc m h k idle found subs same more none quiet i within s e =
             subst R (sym new.0) (none s (subst P new.1 e))
       ],
     )
-
--- ---- a move of the hub or of its feed
-
-feed_rests : {M T : Type 0} (mc : Machine M T) (m : Meaning T) (step : NodeMove) (out : Bool) (h : ℕ) (Q : ℕ → Type 0) (idle : IdleSet) (old new : Rows M T) → IsMovedBy mc m step out h old new → Rests mc m h Q idle old.subs → Rests mc m h Q idle new.subs
-feed_rests {M} {T} mc m step true h Q idle old new k rests =
-    let e = k.effect in
-    let named = feed_named old.feeds h e.feed (placed_feed old.feeds h k.at e.feed k.place e.from) in
-    let P : ℕ → Type 0 = λ n. AllHanded mc n e.signal old.subs new.subs in
-    handed_rests mc m h e.signal Q idle old.subs new.subs (subst P named e.handed) rests
-feed_rests mc m step false h Q idle old new k rests = same_rests mc m h Q idle old.subs new.subs k.subs rests
-
-inside_rests : {M T : Type 0} (mc : Machine M T) (m : Meaning T) (o : Option NodeMove) (h : ℕ) (Q : ℕ → Type 0) (idle : IdleSet) (old new : Rows M T) → IsMovedInFeed mc m o h old new → Rests mc m h Q idle old.subs → Rests mc m h Q idle new.subs
-inside_rests mc m None h Q idle old new k rests = absurd k
-inside_rests mc m (Some step) h Q idle old new k rests = feed_rests mc m step (is_out step) h Q idle old new k rests
-
-tree_rests : {M T : Type 0} (mc : Machine M T) (kd : Nodes M T) (m : Meaning T) (mv : Move) (t : Tree) (hub : HubId) (Q : ℕ → Type 0) (idle : IdleSet) (old new : Rows M T) (o : Option (SubId × Signal T)) → t ≡ FeedOf hub → IsMovedInTree mc kd m mv t old new o → Rests mc m hub.0 Q idle old.subs → Rests mc m hub.0 Q idle new.subs
-tree_rests mc kd m mv (Sub i) hub Q idle old new o e k rests = cc
-tree_rests {M} {T} mc kd m mv (FeedOf h) hub Q idle old new o e k rests =
-    let same : h ≡ hub = cc in
-    let P : HubId → Type 0 = λ x. IsMovedInFeed mc m (feed_move kd old.feeds x.0 mv) x.0 old new in
-    inside_rests mc m (feed_move kd old.feeds hub.0 mv) hub.0 Q idle old new (subst P same k) rests
-
-pub moved_rests : {M T : Type 0} (mc : Machine M T) (kd : Nodes M T) (m : Meaning T) (mv : Move) (hub : HubId) (Q : ℕ → Type 0) (idle : IdleSet) (old new : Rows M T) (o : Option (SubId × Signal T)) → tree_of mv ≡ FeedOf hub → IsMoved mc kd m mv old new o → Rests mc m hub.0 Q idle old.subs → Rests mc m hub.0 Q idle new.subs
-moved_rests mc kd m (Ask t n) hub Q idle old new o e k rests = tree_rests mc kd m (Ask t n) t hub Q idle old new o e k rests
-moved_rests mc kd m (Send t n) hub Q idle old new o e k rests = tree_rests mc kd m (Send t n) t hub Q idle old new o e k rests
-moved_rests mc kd m (Take t n) hub Q idle old new o e k rests = tree_rests mc kd m (Take t n) t hub Q idle old new o e k rests
-moved_rests mc kd m (Pick t n i) hub Q idle old new o e k rests = tree_rests mc kd m (Pick t n i) t hub Q idle old new o e k rests
-moved_rests mc kd m (Row t n) hub Q idle old new o e k rests = tree_rests mc kd m (Row t n) t hub Q idle old new o e k rests
-moved_rests {M} {T} mc kd m (Accept h) hub Q idle old new o e k rests =
-    let same : h ≡ hub = cc in
-    let P : HubId → Type 0 = λ x. Rests mc m x.0 Q idle old.subs in
-    let R : HubId → Type 0 = λ x. Rests mc m x.0 Q idle new.subs in
-    subst R same (handed_rests mc m h.0 k.effect.signal Q idle old.subs new.subs k.effect.handed (subst P (sym same) rests))

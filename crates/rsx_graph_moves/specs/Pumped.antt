@@ -1,10 +1,10 @@
 -- What driving a graph with feeds until it is idle does.
 use Rattle.rsx_sources.specs.declared.machine.Machine.{Ghosts as Machine}
 use Rattle.rsx_rooted.specs.declared.nodes.Nodes.{Ghosts as Nodes}
-use Rattle.std.specs.Prelude.{◌≡◌, ℕ, ◌+◌, ◌≤◌, ◌<◌, true, false, List, [], ◌++◌, length, Option, Result, Ok, Err}
+use Rattle.std.specs.Prelude.{◌≡◌, ◌⊎◌, ℕ, ◌+◌, ◌≤◌, ◌<◌, true, false, List, [], ◌∷◌, ◌++◌, length, Option, None, Result, Ok, Err}
 use Rattle.std.specs.List.{flat_map, fold}
 use Rattle.std.specs.Option.{option_to_list}
-use Rattle.rsx_graph_state.specs.Prelude.{History, with_made, accepts_at, feed_enabled, Rows, StandsFor}
+use Rattle.rsx_graph_state.specs.Prelude.{AllHanded, History, with_made, accepts_at, feed_enabled, Rows, StandsFor}
 use Rattle.rsx_graph_state.specs.declared.refusal.Refusal.{Refusal}
 use Rattle.rsx_graph_state.specs.declared.refusal.Refusal.TheVariants.{NoMemory}
 use Rattle.rsx_graph_state.specs.declared.step.Pumped.{Pumped}
@@ -15,6 +15,8 @@ use Rattle.rsx_rooted.specs.declared.rooted.Pumped.{Pumped as Rest}
 use Rattle.rsx_rooted.specs.declared.rooted.Pumped.TheVariants.{Idle as Rests, Budget as Wakes}
 use Rattle.rsx_subscriber.specs.Prelude.{Delivered, IsNumbered, IsMadeAnswer, NodeMove}
 use Rattle.rsx_sources.specs.Prelude.{Meaning, Move, SubId, Signal}
+use Rattle.rsx_sources.specs.declared.machine.NotMade.{NotMade}
+use Rattle.rsx_sources.specs.declared.machine.NotMade.TheVariants.{NotEnabled, NoMemory as Wanting}
 use Rattle.rsx_graph_moves.specs.Moves.{IsMoved, is_enabled, sent}
 
 -- ---- moves one after the other
@@ -89,6 +91,20 @@ pub record IsHubQuiet {M T : Type 0} (mc : Machine M T) (m : Meaning T) (g : Row
 
 abbrev pub AreHubsQuiet : {M T : Type 0} → Machine M T → Meaning T → Rows M T → ℕ → Type 0
 AreHubsQuiet mc m g n = (h : ℕ) → h < n → IsHubQuiet mc m g h
+
+-- one move of the hub with this number was made, which delivered nothing: of its feed, or by which it took in what its emitter
+-- published. So one was enabled; and each subscription is as it was, or all got the same signal of the hub
+pub record IsHubMoved {M T : Type 0} (mc : Machine M T) (kd : Nodes M T) (m : Meaning T) (h : ℕ) (old new : Rows M T) : Type 0 where
+  pub made : Made T
+  pub all : AreMade mc kd m old (made ∷ []) new
+  pub silent : made.delivered ≡ None
+  pub awake : IsHubQuiet mc m old h → ⊥
+  pub subs : (new.subs ≡ old.subs) ⊎ ((s : Signal T) × AllHanded mc h s old.subs new.subs)
+
+-- why none was made: none is enabled, or one is, and memory was wanting
+abbrev pub IsHubMoveRefusal : {M T : Type 0} → Machine M T → Meaning T → Rows M T → ℕ → NotMade → Type 0
+IsHubMoveRefusal mc m g h NotEnabled = IsHubQuiet mc m g h
+IsHubMoveRefusal mc m g h Wanting = IsHubQuiet mc m g h → ⊥
 
 -- how driving the hub with this number ends after so many moves
 abbrev pub HasRestedAt : {M T : Type 0} → Machine M T → Nodes M T → Meaning T → ℕ → ℕ → ℕ → Rows M T → Result Rest Refusal → Type 0

@@ -17,7 +17,3 @@ AreIdle {M} {T} mc m idle subs = (i : ℕ) → IsIn idle i → (s : Subscription
 pub AreIdle-prop : {M T : Type 0} (mc : Machine M T) (m : Meaning T) (idle : IdleSet) (subs : List (Subscription M T)) → IsProp (AreIdle mc m idle subs)
 unfolding AreIdle
 AreIdle-prop mc m idle subs = Π_prop λ i. Π_prop λ within. Π_prop λ s. Π_prop λ there. ×_prop (×_prop (Π_prop λ move. Π_prop λ small. Coded-set coded_bool _ _) (Coded-set coded_bool _ _)) (Π_prop λ h. Π_prop λ apart. Coded-set coded_ℕ _ _)
-
--- none of them has a node that reads the hub with this number, and so may take something in of it
-unfoldable pub NoIdleReads : {M T : Type 0} → Machine M T → ℕ → IdleSet → List (Subscription M T) → Type 0
-NoIdleReads {M} {T} mc h idle subs = (i : ℕ) → IsIn idle i → (s : Subscription M T) → slice_get subs i ≡ Some s → readers mc h s.part ≡ 0

@@ -1,8 +1,9 @@
 -- What the calls of hubs and feeds did, as moves of the rows.
 use Rattle.rsx_sources.specs.declared.machine.Machine.{Ghosts as Machine}
-use Rattle.std.proofs.Common.{◌≡◌, ℕ, zero, suc, ◌<◌, ◌≤◌, Bool, true, false, ◌&&◌, if◌then◌else◌, List, [], ◌∷◌, length, slice_get, Option, Some, None, is_some, is_none, refl, ap, sym, ◌∙◌, subst, arith}
+use Rattle.std.proofs.Common.{Vec, ◌≡◌, ℕ, zero, suc, ◌<◌, ◌≤◌, Bool, true, false, ◌&&◌, if◌then◌else◌, List, [], ◌∷◌, length, slice_get, Option, Some, None, is_some, is_none, refl, ap, sym, ◌∙◌, subst, arith}
 use Rattle.std.proofs.Math.ListN.{set}
-use Rattle.std.proofs.lemmas.List.{length-set}
+use Rattle.std.proofs.lemmas.List.{length-set, with_items_is}
+use Rattle.std.specs.Vec.{with_items}
 use Rattle.rsx_graph_state.proofs.Publishes.{handed_length}
 use Rattle.rsx_hub.specs.Hub.{HubState}
 use Rattle.rsx_graph_state.specs.Publishing.{IsAccepted, can_accept}
@@ -13,7 +14,10 @@ use Rattle.rsx_tree.specs.declared.look.NodeMove.{NodeMove}
 use Rattle.rsx_types.specs.Meaning.{Meaning, Allocates}
 use Rattle.rsx_graph_state.specs.Moves.{IsAcceptedAt, IsFedAt, IsFeedMoved, IsMadeInFeed, IsMovedBy, accepts_at, accepts_in, allocates_inside, feed_allocates, feed_enabled, has_feed, is_out, rows_of, sends, sends_where, works}
 use Rattle.rsx_graph_state.specs.Stands.{Rows, feed_of, place_of}
-use Rattle.rsx_graph_state.proofs.Places.{feed_placed, feeds_length, unfed_there}
+use Rattle.rsx_graph_state.specs.SubscriptionSet.{NoneReads}
+use Rattle.rsx_graph_state.specs.declared.skipped.Skipped.{Skipped}
+use Rattle.rsx_graph_state.proofs.Named.{feed_named}
+use Rattle.rsx_graph_state.proofs.Places.{feed_placed, feeds_length, placed_feed, unfed_there}
 
 there : {A : Type 0} (xs : List A) (n : ℕ) → n < length xs → (x : A) × (slice_get xs n ≡ Some x)
 there [] n l = absurd (omega (arith, l))
@@ -28,6 +32,13 @@ none_there (x ∷ xs) (suc n) l = none_there xs n (omega (arith, l))
 -- the place that was found
 pub place_is : {M : Type 0} (h : ℕ) (feeds fs : List (Feed M)) (found o : Option ℕ) → fs ≡ feeds → found ≡ place_of fs h → found ≡ o → place_of feeds h ≡ o
 place_is h feeds fs found o same is e = ap (λ l. place_of l h) (sym same) ∙ (sym is ∙ e)
+
+-- the elements of a vector were lent as a list, and are these now
+pub lent_back : {X Z : Type 0} (v : Vec X Z) (lent news : List X) → lent ≡ v.items → length lent ≡ v.len → length news ≡ length lent → length (with_items v news).items ≡ length v.items
+lent_back v lent news value len many = ap length (with_items_is v news (many ∙ len)) ∙ (many ∙ ap length value)
+
+pub lent_same : {X Z : Type 0} (v : Vec X Z) (lent news : List X) → lent ≡ v.items → length lent ≡ v.len → news ≡ lent → (with_items v news).items ≡ v.items
+lent_same v lent news value len same = with_items_is v news (ap length same ∙ len) ∙ (same ∙ value)
 
 -- ---- an Accept
 
@@ -74,6 +85,14 @@ sends_there mc m n at hubs hub feeds fs subs olds b is same all place can =
     ∙ (ap (λ o. sends_where mc m (rows_of hubs feeds subs) (Some hub) o) f.named
     ∙ (ap (λ o. can_feed_of mc m o hub feeds subs) (sym f.there)
     ∙ (ap (λ l. can_feed_at mc m at hub l subs) (sym same) ∙ (ap (λ l. can_feed_at mc m at hub fs l) (sym all) ∙ can))))
+
+-- those that are skipped don't read the hub that the feed names
+pub unread_of : {M T : Type 0} (mc : Machine M T) (n at : ℕ) (f : Feed M) (skipped : Skipped) (feeds fs : List (Feed M)) (subs olds : List (Subscription M T)) → place_of feeds n ≡ Some at → fs ≡ feeds → olds ≡ subs → slice_get fs at ≡ Some f → NoneReads mc n skipped subs → NoneReads mc f.hub skipped olds
+unread_of {M} {T} mc n at f skipped feeds fs subs olds place same all there none =
+    let P : List (Feed M) → Type 0 = λ l. slice_get l at ≡ Some f in
+    let Q : List (Subscription M T) → Type 0 = λ l. NoneReads mc f.hub skipped l in
+    let R : ℕ → Type 0 = λ k. NoneReads mc k skipped subs in
+    subst Q (sym all) (subst R (sym (feed_named feeds n f (placed_feed feeds n at f place (subst P same there)))) none)
 
 -- ---- any move of a feed
 

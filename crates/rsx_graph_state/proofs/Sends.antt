@@ -3,10 +3,9 @@ use Rattle.rsx_sources.specs.declared.machine.Machine.{Ghosts as Machine}
 use Rattle.std.proofs.Common.{◌≡◌, ◌≢◌, ℕ, zero, suc, ◌+◌, ◌≤◌, min, Bool, true, false, ◌&&◌, nat_lt, if◌then◌else◌, List, [], ◌∷◌, ◌++◌, map, set, take, slice_get, Option, Some, None, option_map, refl, ap, sym, ◌∙◌, subst, arith}
 use Rattle.std.proofs.lemmas.Bool.Decides.{nat_tests}
 use Rattle.std.proofs.lemmas.List.{append-nil}
-use Rattle.rsx_sources.specs.Prelude.{Meaning, Stream, signals, ending_signals, Ending, Open, Done, Failed, Signal, Next, Complete, Error, front_of, Cause}
+use Rattle.rsx_sources.specs.Prelude.{Meaning, Stream, signals, ending_signals, Ending, Open, Done, Failed, Signal, Next, Complete, Error, front_of}
 use Rattle.rsx_subscriber.specs.Prelude.{Expr, IsHandedOut, is_room_for, times, IsSentOut, next_out, with_signal, with_signal_at, Part, PartStands, IsTaken}
 use Rattle.rsx_sources.specs.declared.machine.Front.{Front}
-use Rattle.rsx_sources.specs.declared.machine.Front.TheVariants.{Item, Completion, Failure}
 use Rattle.rsx_hub.specs.Hub.{HubState, takes_signal}
 use Rattle.rsx_hub.specs.Member.{ending_taken}
 use Rattle.rsx_hub.specs.Waiting.{is_open}
@@ -33,26 +32,13 @@ next_refused (Some s) f hub room b is takes wont =
     let same : f ≡ front_of s = cc in
     ap (λ c. c && is_room_for s room) (sym wont ∙ takes s same)
 
-pub item_next : {T : Type 0} (o : Option (Signal T)) (hub : HubState T) (room b : Bool) → Some Item ≡ option_map front_of o → ((s : Signal T) → Item ≡ front_of s → b ≡ takes_signal hub s) → b ≡ true → room ≡ takes_next o hub room
-item_next None hub room b is takes will = cc
-item_next (Some (Next x)) hub room b is takes will = ap (λ c. c && room) (sym will ∙ takes (Next x) refl)
-item_next (Some Complete) hub room b is takes will = cc
-item_next (Some (Error c)) hub room b is takes will = cc
-
-pub completion_next : {T : Type 0} (o : Option (Signal T)) (hub : HubState T) (room b : Bool) → Some Completion ≡ option_map front_of o → ((s : Signal T) → Completion ≡ front_of s → b ≡ takes_signal hub s) → b ≡ true → true ≡ takes_next o hub room
-completion_next None hub room b is takes will = cc
-completion_next (Some (Next x)) hub room b is takes will = cc
-completion_next {T} (Some Complete) hub room b is takes will = let s : Signal T = Complete in ap (λ c. c && true) (sym will ∙ takes s refl)
-completion_next (Some (Error c)) hub room b is takes will = cc
-
-pub failure_next : {T : Type 0} (o : Option (Signal T)) (k : Cause) (hub : HubState T) (room b : Bool) → Some (Failure k) ≡ option_map front_of o → ((s : Signal T) → Failure k ≡ front_of s → b ≡ takes_signal hub s) → b ≡ true → true ≡ takes_next o hub room
-failure_next None k hub room b is takes will = cc
-failure_next (Some (Next x)) k hub room b is takes will = cc
-failure_next (Some Complete) k hub room b is takes will = cc
-failure_next {T} (Some (Error c)) k hub room b is takes will =
-    let s : Signal T = Error c in
-    let same : Failure k ≡ front_of s = cc in
-    ap (λ d. d && true) (sym will ∙ takes s same)
+-- what is so of the room for a signal like that which comes next, where the hub takes it in
+pub next_ready : {T : Type 0} (P : Bool → Type 0) (o : Option (Signal T)) (f : Front) (hub : HubState T) (room b : Bool) → Some f ≡ option_map front_of o → ((s : Signal T) → f ≡ front_of s → b ≡ takes_signal hub s) → b ≡ true → ((s : Signal T) → f ≡ front_of s → P (is_room_for s room)) → P (takes_next o hub room)
+next_ready P None f hub room b is takes will so = cc
+next_ready P (Some s) f hub room b is takes will so =
+    let same : f ≡ front_of s = cc in
+    let yes : takes_signal hub s ≡ true = sym (takes s same) ∙ will in
+    subst P (sym (ap (λ c. c && is_room_for s room) yes)) (so s same)
 
 pub feed_there : {M T : Type 0} (mc : Machine M T) (m : Meaning T) (at : ℕ) (f : Feed M) (hub : HubState T) (fs : List (Feed M)) (xs : List (Subscription M T)) (b : Bool) → slice_get fs at ≡ Some f → b ≡ can_feed mc m f hub fs xs → b ≡ can_feed_at mc m at hub fs xs
 feed_there mc m at f hub fs xs b there is = is ∙ sym (ap (λ o. can_feed_of mc m o hub fs xs) there)
@@ -161,7 +147,7 @@ was_open hub s v takes k = k.ending ∙ open_taken hub.has_ended hub.ending (and
 -- ---- all of it
 
 pub all_fed : {M T : Type 0} (mc : Machine M T) (m : Meaning T) (at n count most : ℕ) (hub hub' : HubState T) (fs gs : List (Feed M)) (f mid : Feed M) (xs ys : List (Subscription M T)) (given left : List (Signal T)) → slice_get fs at ≡ Some f → n ≡ f.hub → count ≡ min (all_readers mc n fs xs) most → count ≢ most →
-    can_feed mc m f hub fs xs ≡ true → IsTakenOut mc m f hub count given mid hub' → IsHandedOut (all_readers mc n (set fs at mid) xs) (all_have_room mc n (set fs at mid) xs) given left (λ s. AllFeedsHanded mc n s (set fs at mid) gs × AllHanded mc n s xs ys) → IsFed mc m at hub hub' fs gs xs ys
+    can_feed mc m f hub fs xs ≡ true → IsTakenOut mc m f hub count given mid hub' → IsHandedOut (all_readers mc n (set fs at mid) xs) (all_have_room mc n (set fs at mid) xs) given left (λ s. AllFeedsHanded mc n s (set fs at mid) gs × AllHanded mc n s xs ys) → IsFed mc m at hub hub' fs gs xs ys × (left ≡ [])
 all_fed {M} {T} mc m at n count most hub hub' fs gs f mid xs ys given left from named counted fewer can out handed =
     let s = out.signal in
     let own : n ≡ mid.hub = named ∙ sym out.number in
@@ -174,21 +160,23 @@ all_fed {M} {T} mc m at n count most hub hub' fs gs f mid xs ys given left from 
     let done = handed s 0 (out.copies ∙ ap (λ k. times k s) (sym all)) there in
     let after : Feed M = record { part = mid.part; hub = f.hub } in
     let mid_is : mid ≡ after = ap (λ h. record { part = mid.part; hub = h }) out.number in
-    let fed : AllFeedsHanded mc f.hub s (set fs at after) gs = subst (λ k. AllFeedsHanded mc k s (set fs at after) gs) named (subst (λ g. AllFeedsHanded mc n s (set fs at g) gs) mid_is done.0.0) in
-    record {
-      feed = f;
-      from = from;
-      signal = s;
-      part = mid.part;
-      sent = out.sent;
-      takes = out.takes;
-      taken = out.taken;
-      fed = fed;
-      handed = subst (λ k. AllHanded mc k s xs ys) named done.0.1;
-      published = λ v is. (was_open hub s v out.takes is, subst (λ g. IsTaken g (with_signal s v)) (sym out.taken) (taken_on hub s v is));
-      stands = λ published v e joins at_hub is stands.
-          let new = sent_stands mc m f s mid.part published e joins v out.sent at_hub (was_open hub s v out.takes is) stands in
-          let y = changed_there (IsFeedHanded mc f.hub s) at (set fs at after) gs after (set_there at fs f after from) fed in
-          let not : nat_lt f.hub f.hub ≡ false = own_hub f.hub f.hub refl in
-          (y.0, y.1, subst (λ g. FeedStands mc m (with_signal_at f.hub s published) g e joins) (sym (y.2.same not)) new);
-    }
+    let fed : AllFeedsHanded mc f.hub s (set fs at after) gs = subst (λ k. AllFeedsHanded mc k s (set fs at after) gs) named (subst (λ g. AllFeedsHanded mc n s (set fs at g) gs) mid_is done.0.0) in (
+      record {
+        feed = f;
+        from = from;
+        signal = s;
+        part = mid.part;
+        sent = out.sent;
+        takes = out.takes;
+        taken = out.taken;
+        fed = fed;
+        handed = subst (λ k. AllHanded mc k s xs ys) named done.0.1;
+        published = λ v is. (was_open hub s v out.takes is, subst (λ g. IsTaken g (with_signal s v)) (sym out.taken) (taken_on hub s v is));
+        stands = λ published v e joins at_hub is stands.
+            let new = sent_stands mc m f s mid.part published e joins v out.sent at_hub (was_open hub s v out.takes is) stands in
+            let y = changed_there (IsFeedHanded mc f.hub s) at (set fs at after) gs after (set_there at fs f after from) fed in
+            let not : nat_lt f.hub f.hub ≡ false = own_hub f.hub f.hub refl in
+            (y.0, y.1, subst (λ g. FeedStands mc m (with_signal_at f.hub s published) g e joins) (sym (y.2.same not)) new);
+      },
+      done.1,
+    )

@@ -3,11 +3,10 @@ use Rattle.rsx_sources.specs.declared.machine.Machine.{Ghosts as Machine}
 use Rattle.std.proofs.Common.{◌≡◌, ℕ, zero, suc, ◌+◌, ◌-◌, ◌<◌, ◌≤◌, inl, inr, Bool, true, false, ◌&&◌, if◌then◌else◌, List, [], ◌∷◌, length, take, drop, set, get_or, slice_get, Some, refl, ap, sym, ◌∙◌, subst, arith}
 use Rattle.std.proofs.lemmas.Bool.{cases_lt}
 use Rattle.std.proofs.lemmas.List.{at_drop_all, at_drop_more, drop_more, set-get_or, take_all}
-use Rattle.std.proofs.lemmas.Option.{get_or_from_slice_get, slice_get-get_or}
+use Rattle.std.proofs.lemmas.Option.{get_or_from_slice_get}
 use Rattle.rsx_types.specs.declared.signal.Signal.{Signal}
 use Rattle.rsx_sources.specs.Prelude.{reads_hub}
 use Rattle.rsx_tree.specs.declared.inputs.Inputs.{Inputs, End, More'}
-use Rattle.rsx_tree.specs.declared.node.Node.{Node}
 use Rattle.rsx_tree.specs.Edges.{is_live}
 use Rattle.rsx_tree.specs.Handed as Tree
 use Rattle.rsx_tree.specs.Handed.{IsHandedOut, IsNodeHanded, IsRowHanded, IsTakenWhere, OneOf, has_room_in, is_room_for, reader_at, readers_in, room_at, times}

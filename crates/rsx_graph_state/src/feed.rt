@@ -19,14 +19,14 @@ pub struct Feed<N> {
 }
 
 impl<N: Nodes<Item = T>, T: Drop> Feed<N> {
-    ghost use Rattle.std.specs.Prelude.{◌≡◌, min, true, List, [], ◌∷◌, ◌++◌, length, IfSome, IfNone};
+    ghost use Rattle.std.specs.Prelude.{◌≡◌, min, true, List, None, [], ◌∷◌, ◌++◌, length, IfSome, IfNone};
     ghost use Rattle.rsx_hub.specs.Hub.{HubState};
     ghost use Rattle.rsx_model.specs.declared.expr.Expr.{Expr};
     ghost use Rattle.rsx_pipe.specs.Built.{IsBuilt, new_joins};
     ghost use Rattle.rsx_types.specs.Meaning.{Meaning};
     ghost use Rattle.rsx_types.specs.Stream.{Stream, ended_by};
     ghost use Rattle.rsx_types.specs.declared.signal.Ending.TheVariants.{Open};
-    ghost use Rattle.rsx_pipe.specs.Feeding.{IsQuietInside, inside_enabled};
+    ghost use Rattle.rsx_pipe.specs.Feeding.{IsQuietInside, inside_enabled, next_out};
     ghost use Rattle.rsx_pipe.specs.Part.{IsNumbered};
     ghost use Rattle.rsx_pipe.specs.Published.{AreTaken};
     ghost use Rattle.rsx_tree.specs.Edges.{edge_view};
@@ -54,6 +54,17 @@ impl<N: Nodes<Item = T>, T: Drop> Feed<N> {
         ensures none { (m : Meaning T) → IfNone result (IsQuietInside N.Machine m self.now.part) }
     {
         self.part.first_enabled(&NoRoom)
+    }
+
+    /// Whether no move inside the feed is enabled and its root edge carries nothing now, so that no move of it is enabled, whatever room its
+    /// hub's readers have. Where it answers no, some move may be or not.
+    pub fn rests(&self) -> bool
+        ensures { (m : Meaning T) → result ≡ true → IsQuietInside N.Machine m self.now.part × (next_out N.Machine m self.now.part ≡ None) }
+    {
+        match self.part.next_out() {
+            Some(_) => false,
+            None => self.part.is_idle(&NoRoom),
+        }
     }
 
     /// How many nodes of the feed's part read the hub with this number, but at most `most`. Of its own hub, and of those that come

@@ -57,7 +57,7 @@ pub mod subscription_set;
 
 pub use accepting::{accept, accept_unfed};
 pub use feed::{Feed, HUB_REGION};
-pub use feed_moves::make_in_feed;
+pub use feed_moves::{make_in_feed, send_from_feed, work_in_feed};
 pub use feeds::place_of;
 pub use law::headline;
 pub use publishing::can_accept;

@@ -2,9 +2,10 @@
 
 ghost use Rattle.std.specs.Prelude.{◌≡◌, ◌-◌, ◌<◌, min, true, false, [], Some, IfSome, IfNone, IfErr, OnOk, OnErr, IfOk, vec_len, vec_capacity};
 ghost use Rattle.rsx_types.specs.declared.signal.Signal.{Signal};
+ghost use Rattle.rsx_sources.specs.Machine.{front_of};
 ghost use Rattle.rsx_sources.specs.Steps.{IsNotMade};
 ghost use Rattle.rsx_hub.specs.Hub.{accepted, waiting};
-ghost use Rattle.rsx_tree.specs.Handed.{IsHandedOut, times};
+ghost use Rattle.rsx_tree.specs.Handed.{IsHandedOut, is_room_for, times};
 ghost use Rattle.rsx_graph_state.specs.Publishing as spec;
 ghost use Rattle.rsx_graph_state.specs.Publishing.{all_readers, feed_readers, readers, AllFeedsHanded, AllHanded, IsAccepted};
 ghost use Rattle.rsx_graph_state.specs.SubscriptionSet.{NoneReads};
@@ -73,14 +74,34 @@ fn ready_readers<N: Nodes<Item = T>, T: Drop>(
     skipped: &Skipped,
 ) -> Option<u32>
     requires unread { NoneReads N.Machine number skipped.now subscriptions.now }
-    ensures some { IfSome result (λ n. (spec.can_accept N.Machine number hub.now feeds.now subscriptions.now ≡ true) × (n ≡ min (all_readers N.Machine number feeds.now subscriptions.now) u32.MAX)) }
+    ensures enabled { IfSome result (λ n. spec.can_accept N.Machine number hub.now feeds.now subscriptions.now ≡ true) }
+    ensures some { IfSome result (λ n. n ≡ min (all_readers N.Machine number feeds.now subscriptions.now) u32.MAX) }
     ensures none { IfNone result (spec.can_accept N.Machine number hub.now feeds.now subscriptions.now ≡ false) }
 {
     match hub.front() {
+        Some(front) => readers_for(front, number, feeds, subscriptions, skipped),
         None => None,
-        Some(Front::Item) => all_with_room(number, feeds, subscriptions, skipped, u32::MAX),
-        Some(Front::Completion) => Some(all_readers_up_to(number, feeds, subscriptions, u32::MAX)),
-        Some(Front::Failure(_)) => Some(all_readers_up_to(number, feeds, subscriptions, u32::MAX)),
+    }
+}
+
+/// How many nodes read the hub, but at most `u32::MAX`, where a signal of this kind can be handed to them: for an item all of them have
+/// room. None where it can't.
+pub(crate) fn readers_for<N: Nodes<Item = T>, T: Drop>(
+    front: Front,
+    number: u64,
+    feeds: &[Feed<N>],
+    subscriptions: &[Subscription<N, T>],
+    skipped: &Skipped,
+) -> Option<u32>
+    requires unread { NoneReads N.Machine number skipped.now subscriptions.now }
+    ensures enabled { (s : Signal T) → front ≡ front_of s → IfSome result (λ n. is_room_for s (spec.all_have_room N.Machine number feeds.now subscriptions.now) ≡ true) }
+    ensures some { IfSome result (λ n. n ≡ min (all_readers N.Machine number feeds.now subscriptions.now) u32.MAX) }
+    ensures none { (s : Signal T) → front ≡ front_of s → IfNone result (is_room_for s (spec.all_have_room N.Machine number feeds.now subscriptions.now) ≡ false) }
+{
+    match front {
+        Front::Item => all_with_room(number, feeds, subscriptions, skipped, u32::MAX),
+        Front::Completion => Some(all_readers_up_to(number, feeds, subscriptions, u32::MAX)),
+        Front::Failure(_) => Some(all_readers_up_to(number, feeds, subscriptions, u32::MAX)),
     }
 }
 
@@ -93,7 +114,8 @@ fn all_with_room<N: Nodes<Item = T>, T: Drop>(
     most: u32,
 ) -> Option<u32>
     requires unread { NoneReads N.Machine number skipped.now subscriptions.now }
-    ensures some { IfSome result (λ n. (spec.all_have_room N.Machine number feeds.now subscriptions.now ≡ true) × (n ≡ min (all_readers N.Machine number feeds.now subscriptions.now) most)) }
+    ensures enabled { IfSome result (λ n. spec.all_have_room N.Machine number feeds.now subscriptions.now ≡ true) }
+    ensures some { IfSome result (λ n. n ≡ min (all_readers N.Machine number feeds.now subscriptions.now) most) }
     ensures none { IfNone result (spec.all_have_room N.Machine number feeds.now subscriptions.now ≡ false) }
 {
     if !feeds_have_room(number, feeds) {
@@ -140,25 +162,9 @@ pub fn can_accept<N: Nodes<Item = T>, T: Drop>(
 ) -> bool
     ensures { result ≡ spec.can_accept N.Machine number hub.now feeds.now subscriptions.now }
 {
-    match hub.front() {
+    match ready_readers(number, hub, feeds, subscriptions, &Skipped::none()) {
+        Some(_) => true,
         None => false,
-        Some(Front::Item) => all_have_room(number, feeds, subscriptions),
-        Some(Front::Completion) => true,
-        Some(Front::Failure(_)) => true,
-    }
-}
-
-/// Whether all nodes that read the hub have room for an item of it.
-pub(crate) fn all_have_room<N: Nodes<Item = T>, T: Drop>(
-    number: u64,
-    feeds: &[Feed<N>],
-    subscriptions: &[Subscription<N, T>],
-) -> bool
-    ensures { result ≡ spec.all_have_room N.Machine number feeds.now subscriptions.now }
-{
-    match feeds_have_room(number, feeds) {
-        true => have_room(number, subscriptions),
-        false => false,
     }
 }
 
@@ -174,20 +180,8 @@ fn feeds_have_room<N: Nodes<Item = T>, T: Drop>(number: u64, feeds: &[Feed<N>]) 
     true
 }
 
-/// Whether all nodes of these subscriptions that read the hub have room for an item of it.
-fn have_room<N: Nodes<Item = T>, T: Drop>(number: u64, subscriptions: &[Subscription<N, T>]) -> bool
-    ensures { result ≡ spec.have_room N.Machine number subscriptions.now }
-{
-    for subscription in subscriptions {
-        if !subscription.has_room_for(number) {
-            return false;
-        }
-    }
-    true
-}
-
 /// How many nodes read the hub, but at most `most`.
-pub(crate) fn all_readers_up_to<N: Nodes<Item = T>, T: Drop>(
+fn all_readers_up_to<N: Nodes<Item = T>, T: Drop>(
     number: u64,
     feeds: &[Feed<N>],
     subscriptions: &[Subscription<N, T>],

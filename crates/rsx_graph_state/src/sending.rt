@@ -1,19 +1,22 @@
 //! Sending the signals of a feed into its hub, and handing them to all nodes that read the hub.
 
-ghost use Rattle.std.specs.Prelude.{◌≡◌, ◌-◌, ◌<◌, true, length, IfOk, IfErr, OnOk, OnErr, vec_len, vec_capacity};
+ghost use Rattle.std.specs.Prelude.{◌≡◌, ◌-◌, ◌<◌, [], min, true, false, Some, length, slice_get, IfSome, IfNone, IfErr, OnOk, OnErr, IfOk, vec_len, vec_capacity};
 ghost use Rattle.rsx_types.specs.Meaning.{Meaning};
 ghost use Rattle.rsx_sources.specs.Steps.{IsNotMade};
 ghost use Rattle.rsx_hub.specs.Hub.{taken_in, takes_signal};
 ghost use Rattle.rsx_tree.specs.Handed.{times};
+ghost use Rattle.rsx_graph_state.specs.Publishing.{all_readers};
 ghost use Rattle.rsx_graph_state.specs.Sending as spec;
 ghost use Rattle.rsx_graph_state.specs.Sending.{IsFed, IsTakenOut};
+ghost use Rattle.rsx_graph_state.specs.SubscriptionSet.{NoneReads};
+ghost use Rattle.rsx_graph_state.specs.declared.feed.Feed.{Feed as FeedOf};
 
 use crate::Skipped;
 use crate::feed::Feed;
-use crate::publishing::{all_have_room, all_readers_up_to, hand_to_all};
+use crate::publishing::{hand_to_all, readers_for};
 use rsx_hub::Hub;
 use rsx_pipe::Nodes;
-use rsx_sources::{Front, NotMade};
+use rsx_sources::NotMade;
 use rsx_subscriber::Subscription;
 use rsx_types::{NoMemory, Ops, Signal};
 use std::alloc::Global;
@@ -21,6 +24,9 @@ use std::alloc::Global;
 /// Sends the next signal of the feed with the index `at` into its hub, and hands it to each node of these feeds and subscriptions
 /// that reads the hub. `hub` is the hub that the feed names. An item is handed to all or to none: one node without room keeps
 /// it in the feed.
+///
+/// It looks at no subscription that is skipped. The list, in which the signal stands once for each of these nodes in between, is
+/// empty before and after; used again, it takes no memory.
 ///
 /// # Errors
 /// Nothing has changed:
@@ -35,28 +41,58 @@ pub fn send_to_hub<N: Nodes<Item = O::Item>, O: Ops>(
     hub: &mut Hub<O::Item>,
     feeds: &mut [Feed<N>],
     subscriptions: &mut [Subscription<N, O::Item>],
+    skipped: &Skipped,
+    signals: &mut Vec<Signal<O::Item>>,
 ) -> Result<(), NotMade>
-    requires { at < length feeds.old }
+    requires within { at < length feeds.old }
+    requires unread { (f : FeedOf N) → slice_get feeds.old at ≡ Some f → NoneReads N.Machine f.hub skipped.now subscriptions.old }
+    requires empty { signals.old.items ≡ [] }
     ensures ok { OnOk result (IsFed N.Machine (O.meaning ops.now) at hub.old hub.new feeds.old feeds.new subscriptions.old subscriptions.new) }
     ensures enabled { OnOk result (spec.can_feed_at N.Machine (O.meaning ops.now) at hub.old feeds.old subscriptions.old ≡ true) }
     ensures err { IfErr result (IsNotMade (spec.can_feed_at N.Machine (O.meaning ops.now) at hub.old feeds.old subscriptions.old)) }
     ensures same { OnErr result ((hub.new ≡ hub.old) × (feeds.new ≡ feeds.old) × (subscriptions.new ≡ subscriptions.old)) }
+    ensures empty { signals.new.items ≡ [] }
 {
-    if !can_feed(at, hub, feeds, subscriptions) {
+    let Some(readers) = sent_readers(at, hub, feeds, subscriptions, skipped) else {
         return Err(NotMade::NotEnabled);
-    }
-    let number = u64::from(feeds[at].hub);
-    let readers = all_readers_up_to(number, feeds, subscriptions, u32::MAX);
+    };
     if readers == u32::MAX {
         return Err(NotMade::NoMemory);
     }
-    match take_out(alloc, ops, &mut feeds[at], hub, readers) {
-        Ok(mut signals) => {
-            hand_to_all(number, feeds, subscriptions, &Skipped::none(), &mut signals);
+    let number = u64::from(feeds[at].hub);
+    match take_out(alloc, ops, &mut feeds[at], hub, readers, signals) {
+        Ok(()) => {
+            hand_to_all(number, feeds, subscriptions, skipped, signals);
             Ok(())
         }
         Err(NoMemory) => Err(NotMade::NoMemory),
     }
+}
+
+/// How many nodes read the hub of the feed with the index `at`, but at most `u32::MAX`, where the Send over the feed's root edge is
+/// enabled ([`can_feed`]). None where it isn't.
+fn sent_readers<N: Nodes<Item = T>, T: Drop>(
+    at: usize,
+    hub: &Hub<T>,
+    feeds: &[Feed<N>],
+    subscriptions: &[Subscription<N, T>],
+    skipped: &Skipped,
+) -> Option<u32>
+    requires within { at < length feeds.now }
+    requires unread { (f : FeedOf N) → slice_get feeds.now at ≡ Some f → NoneReads N.Machine f.hub skipped.now subscriptions.now }
+    ensures enabled { (m : Meaning T) → IfSome result (λ n. spec.can_feed_at N.Machine m at hub.now feeds.now subscriptions.now ≡ true) }
+    ensures some { (f : FeedOf N) → slice_get feeds.now at ≡ Some f → IfSome result (λ n. n ≡ min (all_readers N.Machine f.hub feeds.now subscriptions.now) u32.MAX) }
+    ensures none { (m : Meaning T) → IfNone result (spec.can_feed_at N.Machine m at hub.now feeds.now subscriptions.now ≡ false) }
+{
+    let feed = &feeds[at];
+    let front = match feed.part.next_out() {
+        Some(front) => front,
+        None => return None,
+    };
+    if !hub.takes(front) {
+        return None;
+    }
+    readers_for(front, u64::from(feed.hub), feeds, subscriptions, skipped)
 }
 
 /// Whether the Send over the root edge of the feed with the index `at` is enabled ([`send_to_hub`]): the edge carries a signal,
@@ -71,97 +107,96 @@ pub fn can_feed<N: Nodes<Item = T>, T: Drop>(
     requires { at < length feeds.now }
     ensures { (m : Meaning T) → result ≡ spec.can_feed_at N.Machine m at hub.now feeds.now subscriptions.now }
 {
-    let feed = &feeds[at];
-    let front = match feed.part.next_out() {
-        Some(front) => front,
-        None => return false,
-    };
-    if !hub.takes(front) {
-        return false;
-    }
-    match front {
-        Front::Item => all_have_room(u64::from(feed.hub), feeds, subscriptions),
-        Front::Completion => true,
-        Front::Failure(_) => true,
+    match sent_readers(at, hub, feeds, subscriptions, &Skipped::none()) {
+        Some(_) => true,
+        None => false,
     }
 }
 
-/// Takes the feed's next signal out of its part and into the hub, and answers it once for each of so many nodes. For want of
-/// memory it is put back.
+/// Takes the feed's next signal out of its part and into the hub, and puts it into the empty list once for each of so many nodes. For
+/// want of memory it is put back, and the list is empty again.
 fn take_out<N: Nodes<Item = O::Item>, O: Ops>(
     alloc: Global,
     ops: &O,
     feed: &mut Feed<N>,
     hub: &mut Hub<O::Item>,
     readers: u32,
-) -> Result<Vec<Signal<O::Item>>, NoMemory>
-    ensures taken { IfOk result (λ v. IsTakenOut N.Machine (O.meaning ops.now) feed.old hub.old readers v.items feed.new hub.new) }
-    ensures same { OnErr result ((feed.new ≡ feed.old) × (hub.new ≡ hub.old)) }
+    signals: &mut Vec<Signal<O::Item>>,
+) -> Result<(), NoMemory>
+    requires { signals.old.items ≡ [] }
+    ensures taken { OnOk result (IsTakenOut N.Machine (O.meaning ops.now) feed.old hub.old readers signals.new.items feed.new hub.new) }
+    ensures same { OnErr result ((feed.new ≡ feed.old) × (hub.new ≡ hub.old) × (signals.new.items ≡ [])) }
 {
     let signal = match feed.part.send_out(alloc, ops) {
         Ok(signal) => signal,
         Err(_) => return Err(NoMemory),
     };
-    match take_copies(alloc, ops, hub, &signal, readers) {
-        Ok(copies) => Ok(with_last(copies, signal, readers)),
+    match take_copies(alloc, ops, hub, &signal, readers, signals) {
+        Ok(()) => {
+            put_last(signals, signal, readers);
+            Ok(())
+        }
         Err(NoMemory) => {
+            signals.clear();
             feed.part.put_back(signal);
             Err(NoMemory)
         }
     }
 }
 
-/// The signal itself behind its copies, where there is a node for it at all.
-fn with_last<T: Drop>(copies: Vec<Signal<T>>, signal: Signal<T>, readers: u32) -> Vec<Signal<T>>
-    requires copies { copies.items ≡ times (readers - 1) signal }
-    requires room { 0 < readers → vec_len copies < vec_capacity copies }
-    ensures { result.items ≡ times readers signal }
+/// Puts the signal itself behind its copies, where there is a node for it at all.
+fn put_last<T: Drop>(signals: &mut Vec<Signal<T>>, signal: Signal<T>, readers: u32)
+    requires copies { signals.old.items ≡ times (readers - 1) signal }
+    requires room { 0 < readers → vec_len signals.old < vec_capacity signals.old }
+    ensures { signals.new.items ≡ times readers signal }
 {
-    let mut signals = copies;
-    if readers == 0 {
-        return signals;
+    if readers > 0 {
+        signals.push_reserved(signal);
     }
-    signals.push_reserved(signal);
-    signals
 }
 
-/// Makes copies of a signal for all but one of so many nodes, with room for the signal itself, and then has the hub take it in.
+/// Puts copies of a signal for all but one of so many nodes into the empty list, with room for the signal itself, and then has the hub
+/// take it in.
 fn take_copies<O: Ops>(
     alloc: Global,
     ops: &O,
     hub: &mut Hub<O::Item>,
     signal: &Signal<O::Item>,
     readers: u32,
-) -> Result<Vec<Signal<O::Item>>, NoMemory>
-    ensures signals { IfOk result (λ v. v.items ≡ times (readers - 1) signal.now) }
-    ensures room { IfOk result (λ v. 0 < readers → vec_len v < vec_capacity v) }
+    signals: &mut Vec<Signal<O::Item>>,
+) -> Result<(), NoMemory>
+    requires { signals.old.items ≡ [] }
+    ensures signals { OnOk result (signals.new.items ≡ times (readers - 1) signal.now) }
+    ensures room { OnOk result (0 < readers → vec_len signals.new < vec_capacity signals.new) }
     ensures takes { OnOk result (takes_signal hub.old signal.now ≡ true) }
     ensures taken { OnOk result (hub.new ≡ taken_in hub.old signal.now) }
     ensures same { OnErr result (hub.new ≡ hub.old) }
 {
-    let signals = copies_of(alloc, ops, signal, readers)?;
+    copies_of(alloc, ops, signal, readers, signals)?;
     match hub.take_in(alloc, ops, signal) {
-        Ok(()) => Ok(signals),
+        Ok(()) => Ok(()),
         Err(_) => Err(NoMemory),
     }
 }
 
-/// A signal once for each of so many nodes but one, with room for one more.
+/// Puts a signal into the empty list once for each of so many nodes but one, with room for one more.
 fn copies_of<O: Ops>(
     alloc: Global,
     ops: &O,
     signal: &Signal<O::Item>,
     readers: u32,
-) -> Result<Vec<Signal<O::Item>>, NoMemory>
-    ensures signals { IfOk result (λ v. v.items ≡ times (readers - 1) signal.now) }
-    ensures room { IfOk result (λ v. 0 < readers → vec_len v < vec_capacity v) }
+    signals: &mut Vec<Signal<O::Item>>,
+) -> Result<(), NoMemory>
+    requires { signals.old.items ≡ [] }
+    ensures signals { OnOk result (signals.new.items ≡ times (readers - 1) signal.now) }
+    ensures room { OnOk result (0 < readers → vec_len signals.new < vec_capacity signals.new) }
 {
-    let mut signals = Vec::with_capacity(alloc, readers as usize)?;
+    signals.reserve(readers as usize)?;
     for made in 0..readers.saturating_sub(1) {
         let copy = copy_of(alloc, ops, signal)?;
         signals.push_reserved(copy);
     }
-    Ok(signals)
+    Ok(())
 }
 
 /// A copy of a signal.

@@ -56,7 +56,7 @@ pub fn expression<O: Ops>(alloc: Global, ops: &O, case: &str, count: u64) -> Res
     let range = Expr::Range(1, count);
     match case {
         "range" => Ok(range),
-        "map" => over(alloc, Stage::Map(DOUBLE), range),
+        "map" | "fed" | "fedbeside" => over(alloc, Stage::Map(DOUBLE), range),
         "filter" | "single" | "among" => over(
             alloc,
             Stage::Filter(EVEN),

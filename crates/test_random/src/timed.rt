@@ -10,6 +10,7 @@
 //! and, of the items of the demonstration, `flat` (a `flatMap` of each number twice, four lanes at a time), each with an empty chain;
 //! `fan1`, `fan8` and `fan64` (the numbers published to a hub, 64 before each pump, with so many readers that have asked for all);
 //! `beside` (as `fan1`, beside 255 subscriptions of ranges, of which nothing is asked); `among` (as `single`, among 255 of these);
+//! `fed` (`map` feeds a hub with one reader, for each million of the numbers a hub) and `fedbeside` (the same beside 255 of these);
 //! `serial1` and `serial8` (a hub behind a gate, with so many readers, [`crate::gated`]); `serialidle` (as `serial1`, beside 32
 //! subscriptions of ranges, of which nothing is asked).
 //!
@@ -80,7 +81,7 @@ impl Sum {
     }
 }
 
-/// Subscribes to a case.
+/// Subscribes to a case: to its expression, or to a hub that this feeds.
 fn subscribed<O: Ops>(
     alloc: Global,
     ops: &O,
@@ -88,7 +89,10 @@ fn subscribed<O: Ops>(
     case: &str,
     count: u64,
 ) -> Result<SubId> {
-    let expr = expression(alloc, ops, case, count)?;
+    let mut expr = expression(alloc, ops, case, count)?;
+    if case == "fed" || case == "fedbeside" {
+        expr = Expr::Hub(graph.feed_hub(alloc, HubKind::Multicast, BATCH, &expr)?);
+    }
     match graph.subscribe(alloc, &expr) {
         Ok(sub) => Ok(sub),
         Err(_) => bail!("refused"),
@@ -120,7 +124,7 @@ where
 /// How many subscriptions are idle throughout this case: nothing is asked of them.
 fn idle_in(case: &str) -> u32 {
     match case {
-        "beside" | "among" => 255,
+        "beside" | "among" | "fedbeside" => 255,
         "serialidle" => 32,
         _ => 0,
     }

@@ -1,4 +1,4 @@
-use Rattle.std.proofs.Common.{◌≡◌, ◌<◌, ℕ, [], None, length}
+use Rattle.std.proofs.Common.{◌≡◌, ◌<◌, ℕ, [], length}
 use Rattle.rsx_graph_state.specs.Moves.{rows_of}
 use Rattle.rsx_graph_state.specs.Stands.{place_of}
 use Rattle.rsx_graph_state.specs.SubscriptionSet.{IsSkipped, NoneReads}
@@ -16,7 +16,7 @@ invariant-loop-made g l = record {
   subscriptions : length l.subscriptions.items ≡ length l.fn.subscriptions.items;
   so_far : SoFar g.N.Machine g.N.Nodes (g.O.Ops.meaning l.ops) (rows_of l.fn.hubs.items l.fn.feeds.items l.fn.subscriptions.items) [] l.made (rows_of l.hubs.items l.feeds.items l.subscriptions.items) [];
   first : 0 < l.made → IsHubQuiet g.N.Machine (g.O.Ops.meaning l.ops) (rows_of l.fn.hubs.items l.fn.feeds.items l.fn.subscriptions.items) l.fn.hub.0 → ⊥;
-  unfed : place_of l.feeds.items l.fn.hub.0 ≡ None;
+  place : place_of l.feeds.items l.fn.hub.0 ≡ l.at;
   unread : NoneReads g.N.Machine l.fn.hub.0 l.skipped l.subscriptions.items;
   stay : (set : IdleSet) → ((i : ℕ) → IsIn set i → IsSkipped l.skipped i) → AreIdle g.N.Machine (g.O.Ops.meaning l.ops) set l.fn.subscriptions.items → AreIdle g.N.Machine (g.O.Ops.meaning l.ops) set l.subscriptions.items;
   empty : l.signals.items ≡ [];

@@ -11,12 +11,12 @@ hand_to_all-requires g c = record { unread = none_read g.N.Machine c.from-number
 pub returns-in-Ok-clause-ok : goal.returns-in-Ok-clause-ok
 returns-in-Ok-clause-ok g c =
     (all_accepted g.N.Machine c.from-number.result c.args.number c.in-Some.readers 4294967295 c.args.hub.now c.take_in.new.hub c.args.feeds.now c.hand_to_all.new.feeds c.args.subscriptions.now c.hand_to_all.new.subscriptions c.take_in.new.signals.items c.hand_to_all.new.signals.items
-    c.from-number.ensures c.in-Some.ensures.some.0 c.in-Some.ensures.some.1 c.if-readers.false c.in-Ok.ensures.signals c.in-Ok.ensures.taken c.hand_to_all.ensures).0
+    c.from-number.ensures c.in-Some.ensures.enabled c.in-Some.ensures.some c.if-readers.false c.in-Ok.ensures.signals c.in-Ok.ensures.taken c.hand_to_all.ensures).0
 
 pub returns-in-Ok-clause-empty : goal.returns-in-Ok-clause-empty
 returns-in-Ok-clause-empty g c =
     (all_accepted g.N.Machine c.from-number.result c.args.number c.in-Some.readers 4294967295 c.args.hub.now c.take_in.new.hub c.args.feeds.now c.hand_to_all.new.feeds c.args.subscriptions.now c.hand_to_all.new.subscriptions c.take_in.new.signals.items c.hand_to_all.new.signals.items
-    c.from-number.ensures c.in-Some.ensures.some.0 c.in-Some.ensures.some.1 c.if-readers.false c.in-Ok.ensures.signals c.in-Ok.ensures.taken c.hand_to_all.ensures).1
+    c.from-number.ensures c.in-Some.ensures.enabled c.in-Some.ensures.some c.if-readers.false c.in-Ok.ensures.signals c.in-Ok.ensures.taken c.hand_to_all.ensures).1
 
 pub returns-in-Err-clause-err : goal.returns-in-Err-clause-err
-returns-in-Err-clause-err g c = it_can g.N.Machine c.from-number.result c.args.number true c.args.hub.now c.args.feeds.now c.args.subscriptions.now c.from-number.ensures c.in-Some.ensures.some.0
+returns-in-Err-clause-err g c = it_can g.N.Machine c.from-number.result c.args.number true c.args.hub.now c.args.feeds.now c.args.subscriptions.now c.from-number.ensures c.in-Some.ensures.enabled

@@ -1,4 +1,4 @@
-use Rattle.std.proofs.Common.{◌<◌, inl, inr, arith}
+use Rattle.std.proofs.Common.{inl, inr, arith}
 use Rattle.rsx_graph_moves.specs.IdleSet.{IsApart}
 use Rattle.rsx_graph_moves.proofs.IdleSets.{found_set, idle_same}
 use Rattle.rsx_graph_moves.proofs.idle_set.IdleSet.begin.Goals as goal

@@ -1,4 +1,3 @@
-use Rattle.rsx_graph_moves.specs.IdleSet.{IsApart, IsIn}
 use Rattle.rsx_graph_moves.proofs.idle_set.IdleSet.forget.Goals as goal
 
 pub returns-clause-idle : goal.returns-clause-idle

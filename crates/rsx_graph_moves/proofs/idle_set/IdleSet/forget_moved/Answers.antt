@@ -1,4 +1,4 @@
-use Rattle.std.proofs.Common.{◌≡◌, ◌<◌, length, inl, inr, refl, ap, sym, ◌∙◌, subst, arith, rules}
+use Rattle.std.proofs.Common.{◌<◌, length, inl, inr, refl, arith, rules}
 use Rattle.rsx_graph_moves.specs.IdleSet.{IsApart, IsIn}
 use Rattle.rsx_graph_moves.proofs.IdleSets.{found_set, found_there, idle_same}
 use Rattle.rsx_graph_moves.proofs.idle_set.IdleSet.forget_moved.Goals as goal

@@ -5,7 +5,7 @@ use Rattle.rsx_pipe.specs.Part.{IsMade}
 use Rattle.rsx_sources.specs.Steps.{IsNotMade}
 use Rattle.rsx_graph_state.specs.Moves.{allocates_inside, works_where}
 use Rattle.rsx_graph_state.proofs.Places.{placed_feed}
-use Rattle.rsx_graph_state.proofs.feed_moves.work.Goals as goal
+use Rattle.rsx_graph_state.proofs.feed_moves.work_in_feed.Goals as goal
 
 pub returns-in-Ok-clause-count : goal.returns-in-Ok-clause-count
 returns-in-Ok-clause-count g c = length-set c.args.feeds.now.items c.args.at _
