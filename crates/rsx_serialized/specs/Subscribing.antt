@@ -31,6 +31,12 @@ HasTried (Err Busy) old new = (n : ℕ) × IsHeld n × (new ≡ Enter n ∷ old)
 HasTried (Err NoPlace) old new = (n : ℕ) × IsHeld n × (new ≡ GiveUp n ∷ Enter 0 ∷ old)
 HasTried (Err (Refused why)) old new = (n : ℕ) × IsHeld n × (new ≡ GiveUp n ∷ Enter 0 ∷ old)
 
+-- a seat tried to have a tap added: where the tap came back for want of memory, the gate was free
+abbrev pub HasTriedToAdd : {A T : Type 0} → Result A (NotAdded T) → List Step → List Step → Type 0
+HasTriedToAdd (Ok sub) old new = (n : ℕ) × IsHeld n × (new ≡ GiveUp n ∷ Enter 0 ∷ old)
+HasTriedToAdd {T = T} (Err (NotSubscribed' why)) old new = HasTried {A = Tap T} (Err why) old new
+HasTriedToAdd (Err (NoMemory tap)) old new = (n : ℕ) × IsHeld n × (new ≡ GiveUp n ∷ Enter 0 ∷ old)
+
 module _ {O T : Type 0} {b : Ops O T} where
   -- Between whatever links these ends are, they are so still.
   abbrev pub KeepsOn : GraphRegion O T b → GraphRegion O T b → Type 0

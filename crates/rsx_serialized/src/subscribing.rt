@@ -138,7 +138,7 @@ impl<O: Ops> SerializedGraph<O> {
 impl<O: Ops> StartedGraph<O> {
     ghost use Rattle.std.specs.Prelude.{◌≡◌, IfErr, IfOk, OnErr};
     ghost use Rattle.rsx_serialized.specs.Started.{IsStarted};
-    ghost use Rattle.rsx_serialized.specs.Subscribing.{HasAdded, IsNotAdded};
+    ghost use Rattle.rsx_serialized.specs.Subscribing.{HasAdded, HasTriedToAdd, IsNotAdded};
 
     /// Subscribes to an expression, as [`SerializedGraph::subscribe`] does, and puts the tap behind the others. The subscription has its
     /// number.
@@ -154,6 +154,7 @@ impl<O: Ops> StartedGraph<O> {
         ensures started { IsStarted self.new }
         ensures same { (self.new.graph ≡ self.old.graph) × (self.new.emitters ≡ self.old.emitters) }
         ensures parts { self.new.seat.me.0.parts ≡ self.old.seat.me.0.parts }
+        ensures steps { HasTriedToAdd result self.old.seat.me.0.steps self.new.seat.me.0.steps }
         ensures added { IfOk result (HasAdded self.old expr.now self.new.taps.items) }
         ensures err { IfErr result (IsNotAdded self.old expr.now) }
         ensures still { OnErr result (self.new.taps.items ≡ self.old.taps.items) }
