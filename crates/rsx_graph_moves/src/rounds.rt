@@ -12,6 +12,7 @@ use crate::{IdleSet, drive};
 use rsx_graph_state::{Feed, Pumped, Refusal};
 use rsx_hub::Hub;
 use rsx_pipe::{Nodes, Pumped as Driven};
+use rsx_rooted::Batches;
 use rsx_subscriber::{Deliveries, Subscription};
 use rsx_types::Ops;
 use std::alloc::Global;
@@ -27,7 +28,7 @@ use std::alloc::Global;
 /// [`Refusal::NoMemory`] where a growth was refused; the moves made before stand, and their deliveries are in `out`. Where no hub
 /// has a feed, it comes only where `out` has no room for one signal more, where a signal waits in the inbox of a hub, or where some
 /// node of a subscription's tree may allocate.
-pub fn pump<N: Nodes<Item = O::Item>, O: Ops>(
+pub fn pump<N: Nodes<Item = O::Item> + Batches, O: Ops>(
     alloc: Global,
     ops: &O,
     hubs: &mut Vec<Hub<O::Item>>,

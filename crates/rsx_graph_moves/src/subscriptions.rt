@@ -11,6 +11,7 @@ ghost use Rattle.rsx_graph_moves.specs.Rows.{HasDriven, HasDrivenAt};
 use crate::IdleSet;
 use rsx_graph_state::Refusal;
 use rsx_pipe::{Nodes, Pumped as Driven};
+use rsx_rooted::Batches;
 use rsx_subscriber::{Deliveries, Subscription};
 use rsx_types::{NoMemory, Ops, SubId};
 use std::alloc::Global;
@@ -25,7 +26,7 @@ use std::alloc::Global;
 /// # Errors
 /// [`Refusal::NoMemory`] where a growth was refused; the moves made before stand, and their deliveries are in `out`. It comes
 /// only where `out` has no room for one signal more, or where some node of a subscription's tree may allocate.
-pub fn drive<N: Nodes<Item = O::Item>, O: Ops>(
+pub fn drive<N: Nodes<Item = O::Item> + Batches, O: Ops>(
     alloc: Global,
     ops: &O,
     subscriptions: &mut Vec<Subscription<N, O::Item>>,
@@ -58,7 +59,7 @@ pub fn drive<N: Nodes<Item = O::Item>, O: Ops>(
 }
 
 /// Drives one subscription that isn't known to be idle, and puts it into `idle` where none of its moves is enabled any more.
-fn drive_one<N: Nodes<Item = O::Item>, O: Ops>(
+fn drive_one<N: Nodes<Item = O::Item> + Batches, O: Ops>(
     alloc: Global,
     ops: &O,
     subscriptions: &mut Vec<Subscription<N, O::Item>>,

@@ -1,6 +1,7 @@
 -- Lemmas about nodes of several inputs.
 -- Lemmas about nodes of any kind.
 -- Lemmas about trees that were built.
+pub mod Batched
 pub mod Builds
 pub mod Crossings
 pub mod Dispatch

@@ -25,4 +25,5 @@ pub mod Source
 pub mod SourceLaws
 pub mod SourcesRests
 pub mod TreeLaws
+pub mod Went
 pub mod ZipRests

@@ -2,6 +2,7 @@
 
 ghost use Rattle.std.specs.Prelude.{◌≡◌, IfOk};
 
+use rsx_rooted::{Batches, Noted};
 use rsx_sources::{Front, Machine, NotMade, NotTaken, Passed};
 use rsx_types::{NoMemory, Note, Ops, Signal, StreamValue};
 use std::alloc::Global;
@@ -280,4 +281,40 @@ impl<N: Machine> Machine for Boxed<N> {
     ghost ending_waits = { N.ending_waits };
 
     ghost hungry = { N.hungry };
+}
+
+impl<N: Batches> Batches for Boxed<N> {
+    ghost went = { N.went };
+
+    #[inline]
+    fn most(&self) -> u64 {
+        self.node.most()
+    }
+
+    fn peek<O: Ops<Item = Self::Item>>(
+        &self,
+        alloc: Global,
+        ops: &O,
+        most: u64,
+        items: &mut Vec<Self::Item>,
+    ) -> Option<Noted<Self::Item>> {
+        self.node.peek(alloc, ops, most, items)
+    }
+
+    fn try_pass<O: Ops<Item = Self::Item>>(
+        &self,
+        alloc: Global,
+        ops: &O,
+        input: u64,
+        items: &mut Vec<Self::Item>,
+        spare: &mut Vec<Self::Item>,
+    ) -> Option<Noted<Self::Item>> {
+        self.node.try_pass(alloc, ops, input, items, spare)
+    }
+
+    fn go_on(&mut self, noted: Noted<Self::Item>)
+        ensures { N.went self.old noted self.new }
+    {
+        self.node.go_on(noted)
+    }
 }

@@ -38,6 +38,7 @@
 //! have the laws that this asks for.
 
 pub mod any_node;
+mod batches;
 mod boxed;
 mod crossing_nodes;
 pub mod kind;

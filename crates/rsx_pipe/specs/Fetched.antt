@@ -1,2 +1,2 @@
--- An item that is pulled through a part in one go, and out over its root edge.
-pub use Rattle.rsx_rooted.specs.Fetched.{IsFetched, IsWorked}
+-- Items that are pulled through a part, each in one go, and out over its root edge.
+pub use Rattle.rsx_rooted.specs.Fetched.{AreFetched, IsFetched, IsWorked}

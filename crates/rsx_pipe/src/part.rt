@@ -1,7 +1,7 @@
 //! A part of a graph: one tree of nodes with its edges.
 
 pub use rsx_rooted::Pumped;
-use rsx_rooted::{Nodes, Rooted, Sink};
+use rsx_rooted::{Batch, Batches, Nodes, Rooted, Sink};
 use rsx_sources::NotMade;
 use rsx_tree::{Edge, EdgeState, Inputs, Node, NodeMove};
 use rsx_types::{NoMemory, Note, Ops, StreamValue};
@@ -230,5 +230,34 @@ impl<N: Nodes> Part<N> {
         ensures { IfOk result (λ v. IsPartResidual N.Machine (O.meaning ops.now) inboxes.now self.now v) }
     {
         self.rooted.tree.residual(alloc, ops, inboxes)
+    }
+}
+
+impl<N: Nodes + Batches> Part<N> {
+    ghost use Rattle.std.specs.Prelude.{◌≡◌, ◌≤◌, [], length, true, false};
+    ghost use Rattle.rsx_pipe.specs.Fetched.{AreFetched};
+
+    /// Pulls at most `most` items through the part and over its root edge, many at once: what that many calls of [`Part::fetch`] would
+    /// do it does for all of them. They are in `batch`: the caller puts them into the queue behind the root edge, which has to have
+    /// room, or takes them from there at once. Each move takes one of the budget that is `left`, and at least as much of it remains as
+    /// there are items.
+    ///
+    /// It answers no where the way to the items isn't straight, as [`rsx_rooted::fetch_batch`] says. Then nothing has changed.
+    pub fn fetch_batch<O: Ops<Item = N::Item>>(
+        &mut self,
+        alloc: Global,
+        ops: &O,
+        most: u64,
+        left: &mut u32,
+        batch: &mut Batch<N::Item>,
+    ) -> bool
+        requires items { batch.old.items.items ≡ [] }
+        requires notes { batch.old.notes.items ≡ [] }
+        ensures yes { result ≡ true → AreFetched N.Machine (O.meaning ops.now) left.old self.old batch.new.items.items left.new self.new }
+        ensures most { result ≡ true → length batch.new.items.items ≤ most }
+        ensures behind { result ≡ true → length batch.new.items.items ≤ left.new }
+        ensures no { result ≡ false → (self.new ≡ self.old) × (left.new ≡ left.old) }
+    {
+        self.rooted.fetch_batch(alloc, ops, most, left, batch)
     }
 }

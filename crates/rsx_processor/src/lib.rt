@@ -11,6 +11,7 @@
 //! definitions stand in `specs/`: `Node` (what still comes out of an operator with its out slot), `Laws` (the laws that it keeps),
 //! `Either` (what a node of one of two kinds means) and `Trees` (what a tree of such nodes is).
 
+mod batches;
 pub mod either;
 mod either_nodes;
 pub mod node;

@@ -1,5 +1,5 @@
--- An item that is pulled through a part in one go, and out over its root edge.
-use Rattle.std.specs.Prelude.{◌≡◌, ℕ, ◌+◌, Option, Some, None}
+-- Items that are pulled through a part, each in one go, and out over its root edge.
+use Rattle.std.specs.Prelude.{◌≡◌, ℕ, ◌+◌, List, [], ◌∷◌, Option, Some, None}
 use Rattle.rsx_sources.specs.Prelude.{Meaning, Next}
 use Rattle.rsx_sources.specs.declared.machine.Machine.{Ghosts as Machine}
 use Rattle.rsx_rooted.specs.Feeding.{IsSentOut}
@@ -15,3 +15,8 @@ IsWorked b m n old new = IsPumped b no_room m n old tt new tt
 abbrev pub IsFetched : {M T : Type 0} → Machine M T → Meaning T → ℕ → Rooted M → Option T → ℕ → Rooted M → Type 0
 IsFetched {M = M} b m budget old (Some x) left new = (n : ℕ) × (mid : Rooted M) × ((n + 1) + left ≡ budget) × IsWorked b m n old mid × IsSentOut b m mid (Next x) new
 IsFetched b m budget old None left new = (n : ℕ) × (n + left ≡ budget) × IsWorked b m n old new
+
+-- items one after the other, each by enabled moves and the Send of it, and then enabled moves
+abbrev pub AreFetched : {M T : Type 0} → Machine M T → Meaning T → ℕ → Rooted M → List T → ℕ → Rooted M → Type 0
+AreFetched b m budget old [] left new = IsFetched b m budget old None left new
+AreFetched {M = M} b m budget old (x ∷ xs) left new = (between : ℕ) × (mid : Rooted M) × IsFetched b m budget old (Some x) between mid × AreFetched b m between mid xs left new

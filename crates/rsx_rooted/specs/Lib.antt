@@ -6,10 +6,14 @@ pub mod Feeding
 pub mod Fetched
 pub mod Flow
 pub mod Inboxes
+pub mod Items
 pub mod Leaves
 pub mod Local
+pub mod Machines
+pub mod Made
 pub mod Output
 pub mod Regions
 pub mod Rooted
 pub mod Splice
 pub mod Tree
+pub mod Went

@@ -9,6 +9,8 @@
 //! - [`rooted`]: [`Rooted`], a tree with the edge from its root: every move of it, as a [`NodeMove`], `fetch` and `pump`.
 //! - [`feeding`]: signals go over the root edge into the hands of the caller.
 //! - [`sink`]: [`Sink`], what takes the signals that go over a root edge.
+//! - [`batch`]: [`Batches`], a node through which several items can go at once, and [`Batch`], such items on their way.
+//! - [`chain`]: [`fetch_batch`], a batch through a tree.
 //! - [`law`]: [`put_again`], [`two_regions`], [`root_regions`] and [`stands_on`], what a cut and a join come to.
 //!
 //! [`Node::swap_at`](rsx_tree::Node::swap_at) cuts a tree, and joins it again. The node over the edge, with all below it, goes on
@@ -16,21 +18,36 @@
 //! either tree makes, the two that are joined again give what the whole tree gave, without what went out of it meanwhile. That is
 //! stated in `law` of nodes of any kind that keep the laws of [`Machine`](rsx_sources::Machine).
 //!
+//! A batch of items through a straight chain goes over each edge once. It is tried first, and changes nothing: the source at the
+//! bottom makes items, and the nodes above it make of them what they would put out, all in lists beside the tree. What the nodes are
+//! after it they note. Where a node declines an item, as that of a caller's function that fails, all this is let go of, and single
+//! moves go on from there. Else the nodes go on as they noted, and the edges count what went over them. A batch of n items does just
+//! what n calls of [`Node::fetch`](rsx_tree::Node::fetch) do, one after the other.
+//!
 //! What is proved here is proved of all kinds of nodes at once. The definitions stand in `specs/`, apart from the code: `Rooted`
 //! (what a tree stands for, which of its moves are enabled, and what they change), `Fetched` (an item that is pulled through
 //! it), `Feeding` (what goes out into the hands of the caller), `Tree` (what `rsx_tree` says of the tree), `Output`
 //! (what has gone out, and what was published), `Built` (what a tree is that has just begun), `Crossings` (which of its edges
 //! have a queue), `Cutting` (what a cut reads off a tree), `Flow`, `Local`, `Splice` and `Regions` (the words in which the laws of
-//! cut and join are stated), and `Leaves` and `Inboxes` (the places that leaves take at hubs, and what waits in front of these).
+//! cut and join are stated), `Leaves` and `Inboxes` (the places that leaves take at hubs, and what waits in front of these),
+//! `Items` (the single calls and moves that do what a batch does), `Made` (what was noted of a tree, and what it is after that),
+//! `Machines` and `Went` (what nodes that make batches mean, and what they are after one).
 
+pub mod batch;
+pub mod chain;
 pub mod feeding;
 pub mod joins;
 pub mod law;
 pub mod nodes;
 pub mod places;
+mod plain;
+mod range;
 pub mod rooted;
+mod sender;
 pub mod sink;
 
+pub use batch::{After, Batch, Batches, FEWEST_IN_BATCH, MOST_IN_BATCH, Noted};
+pub use chain::{carry_all, fetch_batch, room_over};
 pub use joins::joins_of;
 pub use law::{put_again, root_regions, stands_on, two_regions};
 pub use nodes::{CrossingNodes, Nodes, Route};

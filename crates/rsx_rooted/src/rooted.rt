@@ -3,6 +3,7 @@
 ghost use Rattle.std.specs.Prelude.{◌≡◌, IfSome, true};
 
 use crate::sink::Sink;
+use crate::{Batch, Batches, carry_all, fetch_batch, room_over};
 use rsx_sources::{Front, Machine, NotMade};
 use rsx_tree::{Edge, Inputs, Node, NodeMove};
 use rsx_types::{NoMemory, Ops, Signal};
@@ -565,5 +566,42 @@ fn has_several<M>(inputs: &Inputs<M>) -> bool {
             Inputs::End => false,
             Inputs::More(_, _, _, _) => true,
         },
+    }
+}
+
+impl<M: Batches> Rooted<M> {
+    ghost use Rattle.std.specs.Prelude.{◌≡◌, ◌≤◌, [], length, true, false};
+    ghost use Rattle.rsx_rooted.specs.Fetched.{AreFetched};
+
+    /// Pulls at most `most` items through the tree and over the root edge, many at once: what that many calls of [`Rooted::fetch`]
+    /// would do it does for all of them. They are in `batch`: the caller puts them into the queue behind the root edge, which has to
+    /// have room, or takes them from there at once. Each move takes one of the budget that is `left`, and at least as much of it
+    /// remains as there are items.
+    ///
+    /// It answers no where the way to the items isn't straight, as [`fetch_batch`] says. Then nothing has changed.
+    pub fn fetch_batch<O: Ops<Item = M::Item>>(
+        &mut self,
+        alloc: Global,
+        ops: &O,
+        most: u64,
+        left: &mut u32,
+        batch: &mut Batch<M::Item>,
+    ) -> bool
+        requires items { batch.old.items.items ≡ [] }
+        requires notes { batch.old.notes.items ≡ [] }
+        ensures yes { result ≡ true → AreFetched M.Machine (O.meaning ops.now) left.old self.old batch.new.items.items left.new self.new }
+        ensures most { result ≡ true → length batch.new.items.items ≤ most }
+        ensures behind { result ≡ true → length batch.new.items.items ≤ left.new }
+        ensures no { result ≡ false → (self.new ≡ self.old) × (left.new ≡ left.old) }
+    {
+        let fewer = most.min(room_over(&self.root));
+        if !fetch_batch(alloc, ops, &mut self.tree, fewer, left, batch) {
+            return false;
+        }
+        let behind = *left;
+        let count = batch.items.len() as u64;
+        carry_all(&mut self.root, count);
+        *left = behind - count as u32;
+        true
     }
 }

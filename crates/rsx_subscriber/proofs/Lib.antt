@@ -1,3 +1,4 @@
+pub mod Batches
 pub mod Begun
 pub mod Edits
 pub mod Fetches

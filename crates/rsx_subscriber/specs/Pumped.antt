@@ -1,7 +1,7 @@
 -- What driving a subscription until it is idle does.
 use Rattle.rsx_sources.specs.declared.machine.Machine.{Ghosts as Machine}
 use Rattle.rsx_rooted.specs.declared.nodes.Nodes.{Ghosts as Nodes}
-use Rattle.std.specs.Prelude.{◌≡◌, ◌⊎◌, ℕ, ◌+◌, ◌≤◌, Bool, true, false, List, [], ◌∷◌, ◌++◌, map, Option, Result, Ok, Err}
+use Rattle.std.specs.Prelude.{◌≡◌, ◌⊎◌, ℕ, ◌+◌, ◌≤◌, Bool, true, false, List, [], ◌∷◌, ◌++◌, Option, Result, Ok, Err}
 use Rattle.std.specs.Option.{option_to_list}
 use Rattle.rsx_sources.specs.Prelude.{Meaning, Move, SubId, Sub, Signal}
 pub use Rattle.rsx_tree.specs.Driven.{Spent}
@@ -13,6 +13,7 @@ use Rattle.rsx_rooted.specs.declared.rooted.Pumped.{Pumped as Rest}
 use Rattle.rsx_rooted.specs.declared.rooted.Pumped.TheVariants.{Idle as Rests, Budget as Wakes}
 use Rattle.rsx_subscriber.specs.declared.subscription.Subscription.{Subscription}
 use Rattle.rsx_subscriber.specs.Delivered.{Delivered}
+pub use Rattle.rsx_subscriber.specs.Delivered.{to}
 use Rattle.rsx_subscriber.specs.Past.{Past, given}
 use Rattle.rsx_subscriber.specs.Moves.{tree_of}
 use Rattle.rsx_subscriber.specs.Stands.{StandsAfter, IsEffect, IsMadeAnswer, take_enabled, move_enabled_in}
@@ -21,10 +22,6 @@ use Rattle.rsx_subscriber.specs.Stands.{StandsAfter, IsEffect, IsMadeAnswer, tak
 abbrev pub given_all : {T : Type 0} → List (Signal T) → Past T → Past T
 given_all [] p = p
 given_all (s ∷ ss) p = given_all ss (given s p)
-
--- signals to one subscriber
-abbrev pub to : {T : Type 0} → SubId → List (Signal T) → List (SubId × Signal T)
-to i ss = map (λ s. (i, s)) ss
 
 -- ---- moves one after the other
 

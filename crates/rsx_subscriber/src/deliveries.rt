@@ -1,11 +1,12 @@
 //! The signals that a graph delivered.
 
-ghost use Rattle.std.specs.Prelude.{◌≡◌, ◌∷◌, ◌++◌, [], ◌<◌, ◌^◌, length, OnOk, OnErr, vec_capacity};
+ghost use Rattle.std.specs.Prelude.{◌≡◌, ◌∷◌, ◌++◌, [], ◌+◌, ◌<◌, ◌≤◌, ◌^◌, length, map, OnOk, OnErr, vec_capacity};
 ghost use Rattle.std.specs.Iterator.Runs.{EveryRun, ItemsMapTo};
 ghost use Rattle.std.specs.Slice.Iter.{iter_rest, iter_steps};
 ghost use Rattle.rsx_types.specs.declared.names.SubId.{SubId as SubIdSpec};
 ghost use Rattle.rsx_types.specs.declared.signal.Signal.{Signal as SignalSpec};
-ghost use Rattle.rsx_subscriber.specs.Delivered.{IsFull};
+ghost use Rattle.rsx_subscriber.specs.Delivered.{IsFull, to};
+ghost use Rattle.rsx_types.specs.declared.signal.Signal.TheVariants.{Next};
 
 use rsx_types::{NoMemory, Signal, SubId};
 use std::alloc::Global;
@@ -99,6 +100,31 @@ impl<T: Drop> Deliveries<T> {
     {
         self.signals.reserve(1)?;
         Ok(())
+    }
+
+    /// Makes room for so many signals more. Where there is room already it takes no memory.
+    ///
+    /// # Errors
+    /// [`NoMemory`] where a growth was refused. The list is as it was.
+    pub fn reserve_many(&mut self, count: usize) -> Result<(), NoMemory>
+        ensures signals { self.new.signals ≡ self.old.signals }
+        ensures room { OnOk result (length self.new.signals + count ≤ self.new.room) }
+        ensures same { OnErr result (self.new ≡ self.old) }
+    {
+        self.signals.reserve(count)?;
+        Ok(())
+    }
+
+    /// Puts items to one subscriber at the end, in their order. It takes no memory, and the list of the items is empty then.
+    pub fn append(&mut self, sub: SubId, items: &mut Vec<T>)
+        requires { length self.old.signals + length items.old.items ≤ self.old.room }
+        ensures signals { self.new.signals ≡ self.old.signals ++ to sub (map Next items.old.items) }
+        ensures items { items.new.items ≡ [] }
+    {
+        items.reverse();
+        while let Some(item) = items.pop() {
+            self.signals.push_reserved((sub, Signal::Next(item)));
+        }
     }
 
     /// Puts a signal at the end. It takes no memory.

@@ -11,6 +11,7 @@ use crate::naming::{inside_node, name_of, node_move, node_of};
 use crate::state::SubscriptionState;
 use rsx_demand::Demand;
 use rsx_pipe::{EdgeState, Nodes, Part, Pumped, SignalQueue};
+use rsx_rooted::{Batch, Batches, FEWEST_IN_BATCH, MOST_IN_BATCH};
 use rsx_sources::NotMade;
 use rsx_subscription::{Effect, Input, State, step};
 use rsx_tree::Node;
@@ -18,6 +19,9 @@ use rsx_types::{
     Cause, Ending, Move, NoMemory, NodeId, Note, Ops, Signal, StreamValue, SubId, Tree,
 };
 use std::alloc::Global;
+
+/// How many items are pulled one by one, once they didn't come many at once, before that is tried again.
+const SINGLES: u32 = 32;
 
 /// One subscription of a graph.
 ///
@@ -398,8 +402,77 @@ impl<N: Nodes<Item = T>, T: Drop> Subscription<N, T> {
         Ok(true)
     }
 
+    /// How driving the subscription ends where so much of the budget is left.
+    fn rest(&self, left: u32) -> Pumped
+        ensures { (m : Meaning T) → (0 < left → IsQuiet N.Machine m self.now) → IsRest N.Machine m self.now left result }
+    {
+        match self.is_idle() {
+            true => Pumped::Idle(left),
+            false => Pumped::Budget,
+        }
+    }
+
+    /// Whether no move is enabled.
+    pub fn is_idle(&self) -> bool
+        ensures yes { (m : Meaning T) → result ≡ true → IsQuiet N.Machine m self.now }
+        ensures no { (m : Meaning T) → result ≡ false → IsAwake N.Machine m self.now }
+    {
+        if self.can_take() {
+            return false;
+        }
+        self.part.is_idle(&self.queue)
+    }
+
+    /// The first enabled move of the subscription with this number: the Take of its root, or else one of its part, from the root
+    /// down. None where no move is enabled.
+    pub fn first_enabled(&self, id: SubId) -> Option<Move>
+        ensures some { (m : Meaning T) → IfSome result (λ step. (tree_of step ≡ Tree.Sub id) × (move_enabled_in N.Machine N.Nodes.own m self.now step ≡ true)) }
+        ensures none { (m : Meaning T) → IfNone result (IsQuiet N.Machine m self.now) }
+    {
+        if self.can_take() {
+            return Some(Move::Take(Tree::Sub(id), NodeId(0)));
+        }
+        let inside = self.part.first_enabled(&self.queue)?;
+        let route = self.part.route_below(inside_node(inside));
+        Some(name_of(Tree::Sub(id), inside, route))
+    }
+
+    /// What the nodes of its tree recorded, in pre-order.
+    ///
+    /// # Errors
+    /// [`NoMemory`] where a growth was refused.
+    pub fn notes(&self, alloc: Global) -> Result<Vec<Note>, NoMemory>
+        ensures { IfOk result (λ v. v.items ≡ notes_of N.Machine self.now.part.tree) }
+    {
+        self.part.notes(alloc)
+    }
+
+    /// What is still owed, while the subscription is open: what is queued, and then what comes out of the tree, where just what
+    /// stands in the inboxes is still published at the hubs.
+    ///
+    /// # Errors
+    /// [`NoMemory`] where a growth was refused.
+    pub fn owed<O: Ops<Item = T>>(
+        &self,
+        alloc: Global,
+        ops: &O,
+        inboxes: &[StreamValue<T>],
+    ) -> Result<StreamValue<T>, NoMemory>
+        ensures { IfOk result (λ v. IsStillOwed N.Machine (O.meaning ops.now) inboxes.now self.now v) }
+    {
+        let rest = self.part.residual(alloc, ops, inboxes)?;
+        behind(alloc, ops, &self.queue, rest)
+    }
+}
+
+impl<N: Nodes<Item = T> + Batches, T: Drop> Subscription<N, T> {
+    ghost use Rattle.std.specs.Prelude.{◌≡◌, ◌<◌, ◌+◌, [], OnErr, true, false};
+    ghost use Rattle.rsx_pipe.specs.Part.{pump_allocates};
+    ghost use Rattle.rsx_subscriber.specs.Delivered.{IsFull};
+    ghost use Rattle.rsx_subscriber.specs.Pumped.{HasPumped, SomePumped, Spent};
+
     /// Where nothing is queued, pulls items through the part and hands them to the subscriber, as long as each comes in one go
-    /// and the budget lasts. Answers how many of the budget are left.
+    /// and the budget lasts, many at once where they come so. Answers how many of the budget are left.
     fn fetch<O: Ops<Item = T>>(
         &mut self,
         alloc: Global,
@@ -415,14 +488,79 @@ impl<N: Nodes<Item = T>, T: Drop> Subscription<N, T> {
             return Ok(budget);
         }
         let mut left = budget;
+        let mut singles = 0;
         'items: while left > 0 {
             match self.fetch_one(alloc, ops, id, &mut left, out) {
                 Ok(true) => {}
                 Ok(false) => return Ok(left),
                 Err(NoMemory) => return Err(NoMemory),
             }
+            if singles > 0 {
+                singles -= 1;
+            } else if self.demand.room() >= FEWEST_IN_BATCH {
+                singles = self.fetch_batches(alloc, ops, id, &mut left, out);
+            }
         }
         Ok(left)
+    }
+
+    /// Pulls items through the part many at once and hands them to the subscriber, as long as that goes on. Answers how many items
+    /// are to be pulled one by one before it is worth to try this again.
+    #[inline(never)]
+    fn fetch_batches<O: Ops<Item = T>>(
+        &mut self,
+        alloc: Global,
+        ops: &O,
+        id: SubId,
+        left: &mut u32,
+        out: &mut Deliveries<T>,
+    ) -> u32
+        requires { self.old.queue ≡ [] }
+        ensures pumped { SomePumped N.Machine N.Nodes.own (O.meaning ops.now) id (λ n. n + left.new ≡ left.old) self.old out.old self.new out.new }
+        ensures queue { self.new.queue ≡ [] }
+    {
+        let mut batch = Batch::new(alloc);
+        'batches: while self.fetch_batch(alloc, ops, id, left, out, &mut batch) {}
+        SINGLES
+    }
+
+    /// Pulls many items at once through the part and hands them to the subscriber.
+    #[inline]
+    fn fetch_batch<O: Ops<Item = T>>(
+        &mut self,
+        alloc: Global,
+        ops: &O,
+        id: SubId,
+        left: &mut u32,
+        out: &mut Deliveries<T>,
+        batch: &mut Batch<T>,
+    ) -> bool
+        requires { self.old.queue ≡ [] }
+        ensures pumped { SomePumped N.Machine N.Nodes.own (O.meaning ops.now) id (λ n. n + left.new ≡ left.old) self.old out.old self.new out.new }
+        ensures queue { self.new.queue ≡ [] }
+        ensures some { result ≡ true → left.new < left.old }
+    {
+        let before = *left;
+        let most = self
+            .demand
+            .room()
+            .min((before / 4) as u64)
+            .min(MOST_IN_BATCH);
+        if most < FEWEST_IN_BATCH || !delivers_item(self.state, self.demand) {
+            return false;
+        }
+        if out.reserve_many(most as usize).is_err() {
+            return false;
+        }
+        batch.clear();
+        if !self.part.fetch_batch(alloc, ops, most, left, batch) {
+            return false;
+        }
+        let count = batch.items.len();
+        self.demand.sent += count as u64;
+        *left -= count as u32;
+        out.append(id, &mut batch.items);
+        *left < before
     }
 
     /// Makes enabled moves until none is enabled (Idle) or `budget` moves were made (Budget); where both hold it answers
@@ -491,68 +629,6 @@ impl<N: Nodes<Item = T>, T: Drop> Subscription<N, T> {
             };
         }
         Ok(self.rest(left))
-    }
-
-    /// How driving the subscription ends where so much of the budget is left.
-    fn rest(&self, left: u32) -> Pumped
-        ensures { (m : Meaning T) → (0 < left → IsQuiet N.Machine m self.now) → IsRest N.Machine m self.now left result }
-    {
-        match self.is_idle() {
-            true => Pumped::Idle(left),
-            false => Pumped::Budget,
-        }
-    }
-
-    /// Whether no move is enabled.
-    pub fn is_idle(&self) -> bool
-        ensures yes { (m : Meaning T) → result ≡ true → IsQuiet N.Machine m self.now }
-        ensures no { (m : Meaning T) → result ≡ false → IsAwake N.Machine m self.now }
-    {
-        if self.can_take() {
-            return false;
-        }
-        self.part.is_idle(&self.queue)
-    }
-
-    /// The first enabled move of the subscription with this number: the Take of its root, or else one of its part, from the root
-    /// down. None where no move is enabled.
-    pub fn first_enabled(&self, id: SubId) -> Option<Move>
-        ensures some { (m : Meaning T) → IfSome result (λ step. (tree_of step ≡ Tree.Sub id) × (move_enabled_in N.Machine N.Nodes.own m self.now step ≡ true)) }
-        ensures none { (m : Meaning T) → IfNone result (IsQuiet N.Machine m self.now) }
-    {
-        if self.can_take() {
-            return Some(Move::Take(Tree::Sub(id), NodeId(0)));
-        }
-        let inside = self.part.first_enabled(&self.queue)?;
-        let route = self.part.route_below(inside_node(inside));
-        Some(name_of(Tree::Sub(id), inside, route))
-    }
-
-    /// What the nodes of its tree recorded, in pre-order.
-    ///
-    /// # Errors
-    /// [`NoMemory`] where a growth was refused.
-    pub fn notes(&self, alloc: Global) -> Result<Vec<Note>, NoMemory>
-        ensures { IfOk result (λ v. v.items ≡ notes_of N.Machine self.now.part.tree) }
-    {
-        self.part.notes(alloc)
-    }
-
-    /// What is still owed, while the subscription is open: what is queued, and then what comes out of the tree, where just what
-    /// stands in the inboxes is still published at the hubs.
-    ///
-    /// # Errors
-    /// [`NoMemory`] where a growth was refused.
-    pub fn owed<O: Ops<Item = T>>(
-        &self,
-        alloc: Global,
-        ops: &O,
-        inboxes: &[StreamValue<T>],
-    ) -> Result<StreamValue<T>, NoMemory>
-        ensures { IfOk result (λ v. IsStillOwed N.Machine (O.meaning ops.now) inboxes.now self.now v) }
-    {
-        let rest = self.part.residual(alloc, ops, inboxes)?;
-        behind(alloc, ops, &self.queue, rest)
     }
 }
 

@@ -7,7 +7,7 @@ use rsx_graph_moves::{IdleSet, make, pump};
 use rsx_graph_state::{Feed, MOST_HUBS, MOST_SUBSCRIPTIONS};
 use rsx_hub::Hub;
 use rsx_model::Expr;
-use rsx_rooted::Nodes;
+use rsx_rooted::{Batches, Nodes};
 use rsx_subscriber::{Deliveries, Subscription};
 use rsx_tree::Node;
 use rsx_types::{Ending, HubId, Move, Signal, SubId};
@@ -41,7 +41,7 @@ pub struct Rows<N> {
     regions: Regions,
 }
 
-impl<N: Nodes<Item = Val> + Drop> Rows<N> {
+impl<N: Nodes<Item = Val> + Batches + Drop> Rows<N> {
     /// A graph of these hubs and no subscription.
     fn new(alloc: Global, hubs: Vec<Hub<Val>>) -> Rows<N> {
         Rows {
@@ -175,7 +175,7 @@ fn delivered(alloc: Global, out: &Deliveries<Val>, line: &mut String) -> Result<
 
 /// Does all this to a graph of these hubs, with a subscription to each tree, and answers what was delivered by each act and what is
 /// still owed after it, a line for each.
-pub fn run<N: Nodes<Item = Val> + Drop>(
+pub fn run<N: Nodes<Item = Val> + Batches + Drop>(
     alloc: Global,
     hubs: Vec<Hub<Val>>,
     trees: Vec<(Expr<Val>, Node<N>)>,

@@ -1,0 +1,85 @@
+-- A node of any kind makes the batches that its kind makes.
+use Rattle.std.proofs.Common.{false, List, ℕ}
+use Rattle.rsx_rooted.proofs.OneByOne.{passed_in, popped_in}
+use Rattle.rsx_rooted.specs.Items.{ArePassed, ArePopped, IsIn}
+use Rattle.rsx_rooted.specs.Machines.{plain_machine, range_machine}
+use Rattle.rsx_rooted.specs.Went.{plain_went, range_went}
+use Rattle.rsx_rooted.specs.declared.batch.Noted.{Noted}
+use Rattle.rsx_plain.specs.declared.node.PlainNode.{PlainNode}
+use Rattle.rsx_sources.specs.Prelude.{Meaning, Nothing}
+use Rattle.rsx_sources.specs.declared.machine.Machine.{Ghosts as Machine}
+use Rattle.rsx_sources.specs.declared.machine.Passed.TheVariants.{Kept}
+use Rattle.rsx_sources.specs.declared.range.RangeNode.{RangeNode}
+use Rattle.rsx_tree.specs.Fetched.{IsOut}
+use Rattle.rsx_kinds.specs.Any.{kind_machine}
+use Rattle.rsx_kinds.specs.Went.{any_went, source_went}
+use Rattle.rsx_kinds.specs.Source.{source_comes_out, source_waiting, source_shown, source_popped, source_counted, source_reads, source_rooms, source_pop_allocates}
+use Rattle.rsx_kinds.specs.declared.any_node.AnyNode.{AnyNode}
+use Rattle.rsx_kinds.specs.declared.any_node.AnyNode.TheVariants.{Source, Plain, Several, PublishOn, PublishOnEager, Window, FlatMap, FlatMapDelay, GroupBy}
+use Rattle.rsx_kinds.specs.declared.source_node.SourceNode.{SourceNode}
+use Rattle.rsx_kinds.specs.declared.source_node.SourceNode.TheVariants.{Items, Range, Hub}
+use Rattle.rsx_kinds.proofs.Dispatch.{passed_plain}
+
+-- the meaning of sources
+abbrev pub source_machine : {T : Type 0} → Machine (SourceNode T) T
+source_machine = record {
+  comes_out = source_comes_out;
+  waiting = source_waiting;
+  shown = source_shown;
+  takes = λ n i f. false;
+  picks = λ n i a s. false;
+  rows = λ n a s. false;
+  rowed = λ n a s k. ⊥;
+  recording = λ n i. Nothing;
+  recorded = λ n. Nothing;
+  ended = λ n. false;
+  done = λ n i. false;
+  counted = source_counted;
+  wanted = λ n i a s. 0;
+  popped = source_popped;
+  reads = source_reads;
+  rooms = source_rooms;
+  crosses = λ n. false;
+  pop_allocates = source_pop_allocates;
+  signal_allocates = λ a n. false;
+  step_allocates = λ a n. false;
+}
+
+out_range : {T : Type 0} (m : Meaning T) (s : RangeNode T) (x : T) (t : RangeNode T) → IsOut range_machine m s x t → IsOut source_machine m (Range s) x (Range t)
+out_range m s x t h = (record { waited = h.0.waited; popped_out = h.0.popped_out; value = h.0.value; notes = h.0.notes; counts = h.0.counts }, h.1)
+
+out_source : {T : Type 0} (m : Meaning T) (s : SourceNode T) (x : T) (t : SourceNode T) → IsOut source_machine m s x t → IsOut kind_machine m (Source s) x (Source t)
+out_source m s x t h = (record { waited = h.0.waited; popped_out = h.0.popped_out; value = h.0.value; notes = h.0.notes; counts = h.0.counts }, h.1)
+
+in_plain : {T : Type 0} (m : Meaning T) (i : ℕ) (s : PlainNode T) (x : T) (t : PlainNode T) → IsIn plain_machine m i s x t → IsIn kind_machine m i (Plain s) x (Plain t)
+in_plain m i s x t h = (passed_plain m s t i x Kept h.0, h.1)
+
+out_plain : {T : Type 0} (m : Meaning T) (s : PlainNode T) (x : T) (t : PlainNode T) → IsOut plain_machine m s x t → IsOut kind_machine m (Plain s) x (Plain t)
+out_plain m s x t h = (record { waited = h.0.waited; popped_out = h.0.popped_out; value = h.0.value; notes = h.0.notes; counts = h.0.counts }, h.1)
+
+pub popped_range : {T : Type 0} (m : Meaning T) (n : RangeNode T) (noted : Noted T) (xs : List T) → ((new : RangeNode T) → range_went n noted.after new → ArePopped (IsOut range_machine m) n xs new) → (new : SourceNode T) → source_went (Range n) noted new → ArePopped (IsOut source_machine m) (Range n) xs new
+popped_range m n noted xs h (Range k) w = popped_in Range (IsOut range_machine m) (IsOut source_machine m) (out_range m) xs n k (h k w)
+popped_range m n noted xs h (Items k) w = absurd w
+popped_range m n noted xs h (Hub k) w = absurd w
+
+pub popped_source : {T : Type 0} (m : Meaning T) (n : SourceNode T) (noted : Noted T) (xs : List T) → ((new : SourceNode T) → source_went n noted new → ArePopped (IsOut source_machine m) n xs new) → (new : AnyNode T) → any_went (Source n) noted new → ArePopped (IsOut kind_machine m) (Source n) xs new
+popped_source m n noted xs h (Source k) w = popped_in Source (IsOut source_machine m) (IsOut kind_machine m) (out_source m) xs n k (h k w)
+popped_source m n noted xs h (Plain k) w = absurd w
+popped_source m n noted xs h (Several k) w = absurd w
+popped_source m n noted xs h (PublishOn k) w = absurd w
+popped_source m n noted xs h (PublishOnEager k) w = absurd w
+popped_source m n noted xs h (Window k) w = absurd w
+popped_source m n noted xs h (FlatMap k) w = absurd w
+popped_source m n noted xs h (FlatMapDelay k) w = absurd w
+popped_source m n noted xs h (GroupBy k) w = absurd w
+
+pub passed_plain_all : {T : Type 0} (m : Meaning T) (i : ℕ) (n : PlainNode T) (noted : Noted T) (xs ys : List T) → ((new : PlainNode T) → plain_went n noted.after new → ArePassed (IsIn plain_machine m i) (IsOut plain_machine m) n xs ys new) → (new : AnyNode T) → any_went (Plain n) noted new → ArePassed (IsIn kind_machine m i) (IsOut kind_machine m) (Plain n) xs ys new
+passed_plain_all m i n noted xs ys h (Plain k) w = passed_in Plain (IsIn plain_machine m i) (IsOut plain_machine m) (IsIn kind_machine m i) (IsOut kind_machine m) (in_plain m i) (out_plain m) xs ys n k (h k w)
+passed_plain_all m i n noted xs ys h (Source k) w = absurd w
+passed_plain_all m i n noted xs ys h (Several k) w = absurd w
+passed_plain_all m i n noted xs ys h (PublishOn k) w = absurd w
+passed_plain_all m i n noted xs ys h (PublishOnEager k) w = absurd w
+passed_plain_all m i n noted xs ys h (Window k) w = absurd w
+passed_plain_all m i n noted xs ys h (FlatMap k) w = absurd w
+passed_plain_all m i n noted xs ys h (FlatMapDelay k) w = absurd w
+passed_plain_all m i n noted xs ys h (GroupBy k) w = absurd w

@@ -1,0 +1,7 @@
+use Rattle.std.proofs.lemmas.Option.{IfSome_then}
+use Rattle.rsx_kinds.proofs.Batched.{passed_plain_all}
+use Rattle.rsx_kinds.proofs.batches.AnyNodeBatches.try_pass.Goals as goal
+
+pub returns-in-Plain-clause-passed : goal.returns-in-Plain-clause-passed
+returns-in-Plain-clause-passed g c =
+    rw c.in-Plain.is (IfSome_then c.try_pass.result c.try_pass.ensures.passed (λ noted h. passed_plain_all (g.O.Ops.meaning c.args.ops.now) c.args.input c.in-Plain.node noted c.args.items.now.items c.try_pass.new.items.items h))

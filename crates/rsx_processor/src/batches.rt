@@ -1,0 +1,90 @@
+//! Batches through nodes of one of two kinds. An operator of a caller's own takes its items one by one.
+
+ghost use Rattle.std.specs.Prelude.{◌≡◌};
+ghost use Rattle.rsx_processor.specs.Either.{OfOneKind};
+
+use crate::{EitherNode, Processor, ProcessorNode};
+use rsx_rooted::{Batches, Noted};
+use rsx_types::Ops;
+use std::alloc::Global;
+
+impl<A: Batches, B: Batches<Item = A::Item>> Batches for EitherNode<A, B> {
+    ghost went = { λ old noted new. OfOneKind (λ x y. A.went x noted y) (λ x y. B.went x noted y) old new };
+
+    #[inline]
+    fn most(&self) -> u64 {
+        match self {
+            EitherNode::Left(node) => node.most(),
+            EitherNode::Right(node) => node.most(),
+        }
+    }
+
+    fn peek<O: Ops<Item = Self::Item>>(
+        &self,
+        alloc: Global,
+        ops: &O,
+        most: u64,
+        items: &mut Vec<Self::Item>,
+    ) -> Option<Noted<Self::Item>> {
+        match self {
+            EitherNode::Left(node) => node.peek(alloc, ops, most, items),
+            EitherNode::Right(node) => node.peek(alloc, ops, most, items),
+        }
+    }
+
+    fn try_pass<O: Ops<Item = Self::Item>>(
+        &self,
+        alloc: Global,
+        ops: &O,
+        input: u64,
+        items: &mut Vec<Self::Item>,
+        spare: &mut Vec<Self::Item>,
+    ) -> Option<Noted<Self::Item>> {
+        match self {
+            EitherNode::Left(node) => node.try_pass(alloc, ops, input, items, spare),
+            EitherNode::Right(node) => node.try_pass(alloc, ops, input, items, spare),
+        }
+    }
+
+    fn go_on(&mut self, noted: Noted<Self::Item>)
+        ensures { OfOneKind (λ x y. A.went x noted y) (λ x y. B.went x noted y) self.old self.new }
+    {
+        match self {
+            EitherNode::Left(node) => node.go_on(noted),
+            EitherNode::Right(node) => node.go_on(noted),
+        }
+    }
+}
+
+impl<P: Processor<Item = T>, T: Drop> Batches for ProcessorNode<P, T> {
+    ghost went = { λ old noted new. new ≡ old };
+
+    fn most(&self) -> u64 {
+        0
+    }
+
+    fn peek<O: Ops<Item = T>>(
+        &self,
+        alloc: Global,
+        ops: &O,
+        most: u64,
+        items: &mut Vec<T>,
+    ) -> Option<Noted<T>> {
+        None
+    }
+
+    fn try_pass<O: Ops<Item = T>>(
+        &self,
+        alloc: Global,
+        ops: &O,
+        input: u64,
+        items: &mut Vec<T>,
+        spare: &mut Vec<T>,
+    ) -> Option<Noted<T>> {
+        None
+    }
+
+    fn go_on(&mut self, noted: Noted<T>)
+        ensures { self.new ≡ self.old }
+    {}
+}

@@ -1,0 +1,133 @@
+//! Nodes through which several items can go at once.
+
+ghost use Rattle.std.specs.Prelude.{◌≡◌, [], length, IfSome};
+ghost use Rattle.rsx_rooted.specs.Made.{moves_of};
+ghost use Rattle.rsx_rooted.specs.declared.batch.Noted.{Noted as NotedSpec};
+
+use rsx_plain::PlainNode;
+use rsx_sources::{Machine, RangeNode};
+use rsx_types::Ops;
+use std::alloc::Global;
+
+/// The most items of a batch.
+pub const MOST_IN_BATCH: u64 = 64;
+
+/// The fewest items for which a batch is tried.
+pub const FEWEST_IN_BATCH: u64 = 8;
+
+/// What a node is after a batch.
+#[derive(Drop)]
+pub enum After<T> {
+    /// This range.
+    Range(RangeNode<T>),
+    /// This plain operator.
+    Plain(PlainNode<T>),
+}
+
+/// What a node noted of a batch that was tried.
+#[derive(Drop)]
+pub struct Noted<T> {
+    /// How many items it takes in. None of a source.
+    pub took: u64,
+    /// What it is after it.
+    pub after: After<T>,
+}
+
+/// A node through which several items can go at once.
+pub trait Batches: Machine {
+    /// The second is the first after a batch of which it noted this.
+    ghost went: { Self → NotedSpec Self.Item → Self → Type 0 };
+
+    ghost use Rattle.std.specs.Prelude.{◌≡◌, ◌≤◌, [], length, IfSome};
+    ghost use Rattle.rsx_tree.specs.Fetched.{IsOut};
+    ghost use Rattle.rsx_rooted.specs.Items.{IsIn, ArePassed, ArePopped};
+
+    /// For how many items at most it is worth to try a batch. The answer promises nothing.
+    fn most(&self) -> u64;
+
+    /// Makes the items that come out of it next, at most so many, and leaves it as it is. None where it makes no batch now.
+    fn peek<O: Ops<Item = Self::Item>>(
+        &self,
+        alloc: Global,
+        ops: &O,
+        most: u64,
+        items: &mut Vec<Self::Item>,
+    ) -> Option<Noted<Self::Item>>
+        requires { items.old.items ≡ [] }
+        ensures took { IfSome result (λ noted. noted.took ≡ 0) }
+        ensures most { length items.new.items ≤ most }
+        ensures popped { IfSome result (λ noted. (new : Self) → went self.now noted new → ArePopped (IsOut Self.Machine (O.meaning ops.now)) self.now items.new.items new) };
+
+    /// Makes of items of an input what the node puts out for them, and leaves it as it is. None where it declines one of them.
+    fn try_pass<O: Ops<Item = Self::Item>>(
+        &self,
+        alloc: Global,
+        ops: &O,
+        input: u64,
+        items: &mut Vec<Self::Item>,
+        spare: &mut Vec<Self::Item>,
+    ) -> Option<Noted<Self::Item>>
+        ensures took { IfSome result (λ noted. noted.took ≡ length items.old.items) }
+        ensures most { IfSome result (λ noted. length items.new.items ≤ length items.old.items) }
+        ensures passed { IfSome result (λ noted. (new : Self) → went self.now noted new →
+            ArePassed (IsIn Self.Machine (O.meaning ops.now) input) (IsOut Self.Machine (O.meaning ops.now)) self.now items.old.items items.new.items new) };
+
+    /// Goes on by a batch, as it noted.
+    fn go_on(&mut self, noted: Noted<Self::Item>)
+        ensures { went self.old noted self.new };
+}
+
+/// A batch of items on its way.
+#[derive(Drop)]
+pub struct Batch<T> {
+    /// The items.
+    pub items: Vec<T>,
+    /// Room for the next ones.
+    pub spare: Vec<T>,
+    /// What the nodes noted, from the lowest one up.
+    pub notes: Vec<Noted<T>>,
+}
+
+impl<T: Drop> Batch<T> {
+    /// No items. It takes no memory.
+    pub fn new(alloc: Global) -> Batch<T>
+        ensures items { result.items.items ≡ [] }
+        ensures notes { result.notes.items ≡ [] }
+    {
+        Batch {
+            items: Vec::new(alloc),
+            spare: Vec::new(alloc),
+            notes: Vec::new(alloc),
+        }
+    }
+
+    /// Lets go of all items and notes. Their memory stays.
+    pub fn clear(&mut self)
+        ensures items { self.new.items.items ≡ [] }
+        ensures notes { self.new.notes.items ≡ [] }
+    {
+        self.items.clear();
+        self.spare.clear();
+        self.notes.clear();
+    }
+
+    /// How many items go over the edges in all, where that is less than 2^64.
+    pub fn moves(&self) -> Option<u64>
+        ensures { IfSome result (λ n. n ≡ moves_of self.now.notes.items) }
+    {
+        moves_in(self.notes.as_slice())
+    }
+}
+
+/// How many items go over the edges by these notes in all, where that is less than 2^64.
+fn moves_in<T>(notes: &[Noted<T>]) -> Option<u64>
+    ensures { IfSome result (λ n. n ≡ moves_of notes.now) }
+{
+    match notes.split_first() {
+        Some((first, others)) => match moves_in(others) {
+            Some(moves) => first.took.checked_add(moves),
+            None => None,
+        },
+        None => Some(0),
+    }
+}
