@@ -21,7 +21,7 @@ use Rattle.rsx_runtime.specs.declared.TheConstants.{MOST_WORKERS}
 use Rattle.rsx_runtime.specs.declared.tap.Tap.{Tap}
 use Rattle.rsx_live.specs.Graphs.{IsLiveGraphOf}
 use Rattle.rsx_live.specs.Kept.{AreTapsFrom}
-use Rattle.rsx_live.specs.Starts.{ChangesAt, HasNoTap, IsStarted, IsStartedOf, StaysStarted, TapChanges, TapRequests}
+use Rattle.rsx_live.specs.Starts.{AreTapsOf, ChangesAt, HasNoTap, IsStarted, IsStartedOf, StaysStarted, TapChanges, TapRequests}
 use Rattle.rsx_live.specs.declared.graph.LiveGraph.{LiveGraph}
 use Rattle.rsx_live.specs.declared.graph.StartedGraph.{StartedGraph}
 use Rattle.rsx_live.specs.declared.kept.Kept.{Kept}
@@ -200,6 +200,30 @@ module _ {O T : Type 0} {b : Ops O T} (sub : SubId) (s : StartedGraph O T b) (pl
         same = (refl, refl);
         changed = tap_changed sub s.taps.items now.items place did (λ x y. IsAt s.live.subs.live.links.items x.link (λ l. KeepsTap l x y)) named ch;
         has = has_tap sub s.taps.items place named;
+      }
+
+-- what a call of the tap of one subscription did to all taps of a live graph
+pub record TapWent {O T : Type 0} {b : Ops O T} (sub : SubId) (graph : LiveGraph O T b) (old new : List (Tap T)) (did : Tap T → Tap T → Type 0) : Type 0 where
+  pub taps : AreTapsOf graph new
+  pub changed : TapChanges sub old new did
+  pub has : HasNoTap sub old → ⊥
+
+-- the same where a thread has the taps alone
+module _ {O T : Type 0} {b : Ops O T} (sub : SubId) (graph : LiveGraph O T b) (ts : List (Tap T)) (place : ℕ) (seen : List (Tap T)) (live : Live (TreeNode T) T O) (over : AreTapsOf graph ts) (taps : seen ≡ ts) (same : live ≡ graph.subs.live) (found : IsAmong seen place (λ t. t.sub ≡ sub)) where
+  of_sub : IsAmong ts place (λ t. t.sub ≡ sub)
+  of_sub = named_in sub seen ts place taps found
+
+  pub tap_there : IsAmong ts place (λ t. IsAt live.links.items t.link (λ l. IsTapOf l t))
+  tap_there = ready_in live graph.subs.live same place ts (of_sub.0, of_sub.1, tap_over graph.subs.live.links.items graph.subs.kept.items 0 ts place of_sub.0 over of_sub.1)
+
+  pub tap_went : (now : Vec (Tap T) Global) (did : Tap T → Tap T → Type 0) → ChangesAt place ts now.items (λ x y. IsAt live.links.items x.link (λ l. KeepsTap l x y) × did x y) → TapWent sub graph ts now.items did
+  tap_went now did changes =
+      let ch = changes_in live graph.subs.live same place ts did now.items changes in
+      let A : List (Tap T) → Type 0 = λ l. AreTapsOf graph l in
+      record {
+        taps = subst A (sym ch.put) (taps_set graph.subs.live.links.items graph.subs.kept.items 0 ts place ch.was ch.now over ch.there ch.done.0);
+        changed = tap_changed sub ts now.items place did (λ x y. IsAt graph.subs.live.links.items x.link (λ l. KeepsTap l x y)) of_sub ch;
+        has = has_tap sub ts place of_sub;
       }
 
 -- what has gone live so

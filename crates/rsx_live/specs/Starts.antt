@@ -15,9 +15,14 @@ use Rattle.rsx_runtime.specs.declared.TheConstants.{MOST_WORKERS}
 use Rattle.rsx_runtime.specs.declared.tap.Tap.{Tap}
 use Rattle.rsx_live.specs.Graphs.{IsLiveGraphOf}
 use Rattle.rsx_live.specs.Kept.{AreTapsFrom}
+use Rattle.rsx_live.specs.declared.graph.LiveGraph.{LiveGraph}
 use Rattle.rsx_live.specs.declared.graph.StartedGraph.{StartedGraph}
 
 module _ {O T : Type 0} {b : Ops O T} where
+  -- a tap over its link for each subscription whose part is in a region, in the order of their numbers
+  abbrev pub AreTapsOf : LiveGraph O T b → List (Tap T) → Type 0
+  AreTapsOf live ts = AreTapsFrom live.subs.live.links.items 0 live.subs.kept.items ts
+
   -- That graph has gone live, with these taps and seats. Each tap is over its link, and each seat has all parts of the gate of its region.
   pub record IsStartedOf (graph : Graph O T b) (s : StartedGraph O T b) : Type 0 where
     pub live : IsLiveGraphOf graph s.live

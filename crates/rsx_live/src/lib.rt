@@ -8,7 +8,8 @@
 //! - [`lives`]: [`LiveSubscriptions`], and [`LiveSubscriptions::close`], by which the subscriptions come back.
 //! - [`outgoing`]: [`go_out`], by which the part of a subscription becomes a piece, with a tap for its subscriber.
 //! - [`returning`]: [`come_back`], by which the piece becomes the part of a subscription again.
-//! - [`started`]: the calls of [`StartedGraph`] by which one thread drives a live graph.
+//! - [`started`]: the calls of [`StartedGraph`] by which one thread drives a live graph, and those of [`LiveGraph`] by which a thread
+//!   takes, requests and cancels while others have its seats.
 //!
 //! The definitions stand in `specs/`: `Cutting` (trees that are cut, and nothing was done since), `Graphs` (graphs that are live, and come
 //! back), `Kept` (subscriptions that are parted, and come back), `Lives` (subscriptions that are live), `Outgoing` (a subscription whose

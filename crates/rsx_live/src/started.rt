@@ -1,4 +1,4 @@
-//! One thread drives a live graph.
+//! One thread drives a live graph, or has its taps while other threads have its seats.
 
 ghost use Rattle.std.specs.Prelude.{◌≡◌, ◌<◌, ◌≤◌, length, IfNone, IfSome};
 ghost use Rattle.std.specs.List.{AllZip};
@@ -9,7 +9,7 @@ ghost use Rattle.rsx_runtime.specs.Poking.{IsAmong, Went};
 ghost use Rattle.rsx_runtime.specs.Tapping.{IsTapOf, KeepsTap};
 ghost use Rattle.rsx_live.specs.Starts.{ChangesAt, HasNoTap, TapCancels, TapRequests, Takes};
 
-use crate::graph::StartedGraph;
+use crate::graph::{LiveGraph, StartedGraph};
 use rsx_graph::Graph;
 use rsx_pipe::Nodes;
 use rsx_region::NotJoined;
@@ -114,6 +114,58 @@ impl<O: Ops> StartedGraph<O> {
     {
         let StartedGraph { live, taps, seats } = self;
         live.close(taps, seats)
+    }
+}
+
+/// A thread may take, request and cancel by the taps of a live graph while other threads have its seats. None of these calls waits or
+/// takes memory.
+impl<O: Ops> LiveGraph<O> {
+    ghost use Rattle.std.specs.Prelude.{◌≡◌, ◌⊎◌, None};
+    ghost use Rattle.rsx_live.specs.Starts.{AreTapsOf, HasNoTap, TapCancels, TapChanges, TapRequests, Takes};
+
+    /// Takes the next signal that was delivered to this subscription, if one waits, as [`StartedGraph::take`] does, by its tap, which is
+    /// one of these.
+    pub fn take(&self, taps: &mut Vec<Tap<O::Item>>, sub: SubId) -> Option<Signal<O::Item>>
+        requires { AreTapsOf self.now taps.old.items }
+        ensures taps { AreTapsOf self.now taps.new.items }
+        ensures took { HasNoTap sub taps.old.items ⊎ TapChanges sub taps.old.items taps.new.items (Takes result) }
+        ensures none { HasNoTap sub taps.old.items → (result ≡ None) × (taps.new ≡ taps.old) }
+    {
+        let Some(place) = place_of(taps, sub) else {
+            return None;
+        };
+        take_at(self.live(), taps, place)
+    }
+
+    /// Requests so many items more for this subscription, as [`StartedGraph::request`] does, by its tap, which is one of these.
+    pub fn request(
+        &self,
+        taps: &mut Vec<Tap<O::Item>>,
+        sub: SubId,
+        n: i64,
+    ) -> Option<Signal<O::Item>>
+        requires { AreTapsOf self.now taps.old.items }
+        ensures taps { AreTapsOf self.now taps.new.items }
+        ensures requested { HasNoTap sub taps.old.items ⊎ TapChanges sub taps.old.items taps.new.items (TapRequests n result) }
+        ensures none { HasNoTap sub taps.old.items → (result ≡ None) × (taps.new ≡ taps.old) }
+    {
+        let Some(place) = place_of(taps, sub) else {
+            return None;
+        };
+        request_at(self.live(), taps, place, n)
+    }
+
+    /// Cancels this subscription, as [`StartedGraph::cancel`] does, by its tap, which is one of these.
+    pub fn cancel(&self, taps: &mut Vec<Tap<O::Item>>, sub: SubId)
+        requires { AreTapsOf self.now taps.old.items }
+        ensures taps { AreTapsOf self.now taps.new.items }
+        ensures cancelled { HasNoTap sub taps.old.items ⊎ TapChanges sub taps.old.items taps.new.items TapCancels }
+        ensures none { HasNoTap sub taps.old.items → taps.new ≡ taps.old }
+    {
+        let Some(place) = place_of(taps, sub) else {
+            return;
+        };
+        cancel_at(self.live(), taps, place);
     }
 }
 

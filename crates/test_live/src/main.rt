@@ -20,7 +20,6 @@ mod compared;
 mod driven;
 mod numbers;
 mod serving;
-mod tapping;
 mod threaded;
 mod timed;
 mod trial;

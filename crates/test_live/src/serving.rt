@@ -5,11 +5,9 @@ ghost use Rattle.std.specs.List.{AllZip};
 ghost use Rattle.rsx_gate.specs.Machine.{all_parts};
 ghost use Rattle.rsx_gate.specs.Seats.{IsSeatOf};
 ghost use Rattle.rsx_runtime.specs.declared.TheConstants.{MOST_WORKERS};
-ghost use Rattle.rsx_live.specs.Starts.{IsStarted};
-ghost use Rattle.test_live.specs.Taps.{AreTapsOf};
+ghost use Rattle.rsx_live.specs.Starts.{AreTapsOf, IsStarted};
 
 use crate::driven::Log;
-use crate::tapping::{request_at, sub_at, take_at};
 use anyhow::{Result, bail};
 use rsx_demo::{Demo, Val};
 use rsx_kinds::TreeNode;
@@ -174,15 +172,16 @@ fn take_turn<O: Ops>(
     ensures { AreTapsOf graph.now taps.new.items }
 {
     let (place, n) = request;
-    let Some(sub) = sub_at(taps, place) else {
+    let Some(tap) = taps.get(place) else {
         bail!("a subscription has no tap")
     };
-    if let Some(signal) = request_at(graph, taps, place, n) {
+    let sub = tap.sub();
+    if let Some(signal) = graph.request(taps, sub, n) {
         received.push((sub, signal))?;
     }
     rouser.rouse(u16::MAX);
     for _ in 0..ALL {
-        match take_at(graph, taps, place) {
+        match graph.take(taps, sub) {
             Some(signal) => received.push((sub, signal))?,
             None => break,
         }

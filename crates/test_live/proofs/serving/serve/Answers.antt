@@ -1,5 +1,5 @@
 use Rattle.std.proofs.lemmas.Result.{IfOk-weaker}
-use Rattle.test_live.proofs.Started.{again}
+use Rattle.rsx_live.proofs.Seated.{again}
 use Rattle.test_live.proofs.serving.serve.Goals as goal
 
 pub returns : goal.returns

@@ -2,7 +2,7 @@ use denote.Param.Send.{IsSend, sendable}
 use Rattle.std.proofs.Crossing.{crosses}
 use Rattle.rsx_demo.specs.contracts.val.Val as Val
 use Rattle.rsx_demo.proofs.val.Vals.TheLaws.TheKnot as ValKnot
-use Rattle.test_live.proofs.Crosses.{tree_node}
+use Rattle.rsx_live.proofs.Crosses.{tree_node}
 use Rattle.test_live.proofs.serving.serve_regions.Goals as goal
 
 val : IsSend Val.the_row

@@ -1,4 +1,4 @@
-use Rattle.test_live.specs.Taps.{AreTapsOf}
+use Rattle.rsx_live.specs.Starts.{AreTapsOf}
 use Rattle.test_live.proofs.serving.take_turn.Given as goal
 
 abbrev pub invariant-loop : goal.invariant-loop

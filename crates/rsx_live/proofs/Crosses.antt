@@ -5,8 +5,8 @@ use denote.Enum.Declared.{shape}
 use denote.Struct.Declared as fields
 use denote.Param.Send.{IsSend, enum_send, recorded_send, sendable, struct_send}
 use Rattle.std.proofs.Crossing.{crosses}
-use Rattle.circular_buffer.proofs.cells.Cells.TheSendSync as Cells
-use Rattle.circular_buffer.proofs.cells.Deed.TheSendSync as Deed
+use Rattle.rsx_hub.below.circular_buffer.proofs.cells.Cells.TheSendSync as Cells
+use Rattle.rsx_hub.below.circular_buffer.proofs.cells.Deed.TheSendSync as Deed
 use Rattle.rsx_kinds.below.rsx_plain.proofs.chain.ChainState.TheLaws.TheKnot as Chain
 use Rattle.rsx_kinds.below.rsx_plain.proofs.state.PlainState.TheSendSync as State
 use Rattle.rsx_kinds.below.rsx_window.specs.contracts.node.WindowNode as WindowNode

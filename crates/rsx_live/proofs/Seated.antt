@@ -6,10 +6,9 @@ use Rattle.rsx_types.specs.declared.ops.Ops.{Ghosts as Ops}
 use Rattle.rsx_gate.specs.Machine.{all_parts}
 use Rattle.rsx_gate.specs.Seats.{IsSeatOf}
 use Rattle.rsx_live.specs.Graphs.{IsLiveGraphOf}
-use Rattle.rsx_live.specs.Starts.{IsStarted}
+use Rattle.rsx_live.specs.Starts.{AreTapsOf, IsStarted}
 use Rattle.rsx_live.specs.declared.graph.LiveGraph.{LiveGraph}
 use Rattle.rsx_live.specs.declared.graph.StartedGraph.{StartedGraph}
-use Rattle.test_live.specs.Taps.{AreTapsOf}
 
 -- it has started still, where its taps are those of the graph, and its seats those of the regions, each with all parts
 pub again : {O T : Type 0} {b : Ops O T} (old new same : StartedGraph O T b) → IsStarted old → (new.live ≡ old.live) × (new.taps ≡ same.taps) × (new.seats ≡ same.seats) → AreTapsOf old.live same.taps.items →

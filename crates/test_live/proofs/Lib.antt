@@ -1,3 +1,0 @@
--- Lemmas.
-pub mod Crosses
-pub mod Started

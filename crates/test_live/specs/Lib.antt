@@ -1,2 +1,0 @@
--- Definitions that contracts cite.
-pub mod Taps
