@@ -1,26 +1,23 @@
 //! Scripts whose graph may go live.
 //!
 //! After `live W` the graph is live, up to `close`. What a command does is then done to the live graph: its trees are cut into pieces, which
-//! are put into the regions of W workers, one thread pokes these until none makes a move, does what the command says by the
-//! subscription's tap, and pokes them again. Between two commands the pieces are joined again. So nothing happens between them, and what
-//! a live graph has no call for, as to publish and to subscribe, is done to the graph as it is then. What it answers is tested, and not
-//! proved.
-
-ghost use Rattle.std.specs.Prelude.{⊤};
+//! are put into the regions of W workers, each worker serves its region on a thread of its own until none makes a move, what the command
+//! says is done by the subscription's tap, and the workers serve them again. Between two commands the pieces are joined again. So nothing
+//! happens between them, and what a live graph has no call for, as to publish and to subscribe, is done to the graph as it is then. What
+//! it answers is tested, and not proved.
 
 use crate::emitters::{Emitters, Publication};
 use crate::serving::{Served, Use, serve};
 use rsx_demo::Val;
-use rsx_drive::{Answers, answer_lines};
 use rsx_model::{Below, Expr, below_of, refusal_of};
-use rsx_script::{
-    Answer, AppFault, Command, LineRefusal, LiveAnswer, LiveCommand, parse_live_line,
-};
+use rsx_script::{Answer, Command, LineRefusal, LiveAnswer, LiveCommand, parse_live_line};
 use rsx_session::{Session, View};
 use rsx_types::{HubId, NoMemory, SubId};
 use std::alloc::Global;
-use std::io::{Read, Write};
 use std::mem;
+use std::sync::Wait;
+use std::thread::Threads;
+use std::time::Clock;
 
 /// What `live` answers where there are too few workers for the graph's regions, or none, or more than there may be.
 const TOO_FEW_WORKERS: &str = "K3";
@@ -34,49 +31,48 @@ const OVERFULL: &str = "K5";
 /// What a command answers that names a subscription that isn't there.
 const UNKNOWN_SUB: &str = "G2";
 
-/// Answers each command of a script whose graph may go live, until the input ends. The answers are written as
-/// [`drive`](rsx_drive::drive) writes them.
-///
-/// # Errors
-///
-/// As [`drive`](rsx_drive::drive). `Memory` also where the pieces of a graph that was live can't be joined, which is not proved never to
-/// come, and no test met it.
-pub fn answer_live<R: Read, W: Write>(
-    alloc: Global,
-    reader: &mut R,
-    writer: &mut W,
-) -> Result<(), AppFault> {
-    let session = Session::new(alloc, View::Received)?;
-    let script = LiveScript {
-        session,
-        emitters: Emitters::new(alloc),
-        workers: None,
-    };
-    answer_lines(alloc, script, reader, writer)
-}
-
 /// A script whose graph may go live.
 #[derive(Drop)]
-struct LiveScript {
+pub struct LiveScript {
     session: Session,
     emitters: Emitters,
     /// How many workers there are, while the graph is live.
     workers: Option<u8>,
 }
 
-impl Answers for LiveScript {
-    ghost stands = { λ _ _ _. ⊤ };
+impl LiveScript {
+    /// A script none of whose lines was answered.
+    ///
+    /// # Errors
+    ///
+    /// `NoMemory` where a growth was refused.
+    pub fn new(alloc: Global) -> Result<LiveScript, NoMemory> {
+        let session = Session::new(alloc, View::Received)?;
+        Ok(LiveScript {
+            session,
+            emitters: Emitters::new(alloc),
+            workers: None,
+        })
+    }
 
-    ghost ends = { λ _ _. ⊤ };
-
-    ghost refuses = { λ _ _ _ _. ⊤ };
-
-    fn answer(&mut self, alloc: Global, line: &[u8], out: &mut String) -> Result<(), LineRefusal> {
+    /// Answers the next line, which stands without its newline, and adds the answer to `out`.
+    ///
+    /// # Errors
+    ///
+    /// Why the line can't be read, or `NoMemory`, which comes too where the pieces of a graph that was live can't be joined: that is not
+    /// proved never to come, and no test met it. `out` is then as it was, and no further line may be answered.
+    pub fn answer<R: Threads + Wait + Sync + Clock>(
+        &mut self,
+        rt: &R,
+        alloc: Global,
+        line: &[u8],
+        out: &mut String,
+    ) -> Result<(), LineRefusal> {
         let Some(command) = parse_live_line(alloc, line, self.workers.is_some())? else {
             return Ok(());
         };
         let mut answer = String::new(alloc);
-        if self.carry_out(alloc, command, &mut answer).is_err() {
+        if self.carry_out(rt, alloc, command, &mut answer).is_err() {
             return Err(LineRefusal::NoMemory);
         }
         match out.push_str(answer.as_str()) {
@@ -85,44 +81,39 @@ impl Answers for LiveScript {
         }
     }
 
-    fn finish(&self) -> Result<(), LineRefusal> {
-        Ok(())
-    }
-
-    ghost too_long = { λ _ _ _ _ _ _ _. record {} };
-
-    ghost wanting = { λ _ _ _ _ _. record {} };
-
-    ghost wanting_last = { λ _ _ _. record {} };
-}
-
-impl LiveScript {
     /// Does what a command asks for, and adds its answer to the text.
-    fn carry_out(
+    fn carry_out<R: Threads + Wait + Sync + Clock>(
         &mut self,
+        rt: &R,
         alloc: Global,
         command: LiveCommand,
         out: &mut String,
     ) -> Result<(), NoMemory> {
         match command {
-            LiveCommand::Live(workers) => self.go_live(alloc, workers, out),
-            LiveCommand::Take(sub, count) => self.take(alloc, sub, count, out),
+            LiveCommand::Live(workers) => self.go_live(rt, alloc, workers, out),
+            LiveCommand::Take(sub, count) => self.take(rt, alloc, sub, count, out),
             LiveCommand::Close => {
                 self.workers = None;
                 LiveAnswer::Closed.add_to(alloc, out)
             }
             LiveCommand::Other(command) => match self.workers {
                 None => self.answer_beside(alloc, command, out),
-                Some(workers) => self.answer_while_live(alloc, workers, command, out),
+                Some(workers) => self.answer_while_live(rt, alloc, workers, command, out),
             },
         }
     }
 
     /// Has the graph go live, with so many workers.
-    fn go_live(&mut self, alloc: Global, workers: u8, out: &mut String) -> Result<(), NoMemory> {
+    fn go_live<R: Threads + Wait + Sync + Clock>(
+        &mut self,
+        rt: &R,
+        alloc: Global,
+        workers: u8,
+        out: &mut String,
+    ) -> Result<(), NoMemory> {
         let waiting = self.emitters.is_waiting();
         let used = if waiting { Use::Look } else { Use::Nothing };
-        if let Served::TooFewWorkers = self.serve(alloc, workers, used)? {
+        if let Served::TooFewWorkers = self.serve(rt, alloc, workers, used)? {
             return Answer::Refused(TOO_FEW_WORKERS).add_to(alloc, out);
         }
         if waiting {
@@ -133,8 +124,9 @@ impl LiveScript {
     }
 
     /// Takes at most so many signals of a subscription. A subscription without a tap gets none before the close.
-    fn take(
+    fn take<R: Threads + Wait + Sync + Clock>(
         &mut self,
+        rt: &R,
         alloc: Global,
         sub: SubId,
         count: u64,
@@ -145,7 +137,7 @@ impl LiveScript {
         }
         // `take` is a command of live graphs alone, so there are workers.
         let workers = self.workers.unwrap_or(0);
-        let taken = match self.serve(alloc, workers, Use::Take(sub, count))? {
+        let taken = match self.serve(rt, alloc, workers, Use::Take(sub, count))? {
             Served::Done(taken) => taken,
             Served::NoTap | Served::TooFewWorkers => 0,
         };
@@ -215,8 +207,9 @@ impl LiveScript {
 
     /// Does what a command asks for that the other modes have, too, while the graph is live. A subscription with a tap is requested and
     /// cancelled by it.
-    fn answer_while_live(
+    fn answer_while_live<R: Threads + Wait + Sync + Clock>(
         &mut self,
+        rt: &R,
         alloc: Global,
         workers: u8,
         command: Command,
@@ -233,11 +226,11 @@ impl LiveScript {
             }
             _ => Use::Nothing,
         };
-        if let Served::Done(_) = self.serve(alloc, workers, used)? {
+        if let Served::Done(_) = self.serve(rt, alloc, workers, used)? {
             return Answer::Done.add_to(alloc, out);
         }
         self.answer_beside(alloc, command, out)?;
-        self.serve(alloc, workers, Use::Nothing)?;
+        self.serve(rt, alloc, workers, Use::Nothing)?;
         Ok(())
     }
 
@@ -251,10 +244,16 @@ impl LiveScript {
     /// # Errors
     ///
     /// `NoMemory` where a growth was refused, and where the pieces can't be joined. The graph is gone then, and an empty one in its place.
-    fn serve(&mut self, alloc: Global, workers: u8, used: Use) -> Result<Served, NoMemory> {
+    fn serve<R: Threads + Wait + Sync + Clock>(
+        &mut self,
+        rt: &R,
+        alloc: Global,
+        workers: u8,
+        used: Use,
+    ) -> Result<Served, NoMemory> {
         let empty = Session::new(alloc, View::Received)?;
         let session = mem::replace(&mut self.session, empty);
-        let (session, served) = serve(alloc, session, workers, used)?;
+        let (session, served) = serve(rt, alloc, session, workers, used)?;
         self.session = session;
         Ok(served)
     }

@@ -16,11 +16,13 @@
 //! read.
 
 mod emitters;
+mod lines;
 mod live;
 mod serving;
+mod threads;
 mod watching;
 
-use crate::live::answer_live;
+use crate::lines::answer_live;
 use clap::error::ErrorKind;
 use rsx_drive::{CommandLine, Style, command_line_of, drive, judge_input};
 use rsx_script::{AppFault, LineRefusal, Mode, Reads, Remembering, Subcommand, hint};
@@ -28,6 +30,8 @@ use rsx_session::Recording;
 use std::io::{IsTerminal, Read, Write};
 use std::process::ExitCode;
 use std::rt::{Clock, Env, Files};
+use std::sync::Wait;
+use std::thread::Threads;
 use std::{env, fs, io};
 use watching::Watching;
 
@@ -52,7 +56,7 @@ fn words_of(rt: &(impl Env + AllocGlobal)) -> io::Result<Vec<String>> {
 
 /// Runs the program, and answers with its exit status. What `clap` says goes to standard error, help too.
 fn run(
-    rt: &(impl Input + Print + Eprint + Files + Clock + AllocGlobal),
+    rt: &(impl Input + Print + Eprint + Files + Clock + AllocGlobal + Threads + Wait + Sync),
     words: &[String],
     terminal: Terminal,
 ) -> u8 {
@@ -72,7 +76,7 @@ fn run(
 
 /// Answers standard input as the command line says, and answers with the exit status.
 fn answer(
-    rt: &(impl Input + Print + Eprint + Files + Clock + AllocGlobal),
+    rt: &(impl Input + Print + Eprint + Files + Clock + AllocGlobal + Threads + Wait + Sync),
     line: &CommandLine<'_>,
     terminal: Terminal,
 ) -> u8 {
@@ -97,14 +101,14 @@ fn answer(
 
 /// Answers what the reader gives.
 fn answer_from<R: Read>(
-    rt: &(impl Print + AllocGlobal),
+    rt: &(impl Print + AllocGlobal + Threads + Wait + Sync + Clock),
     line: &CommandLine<'_>,
     reader: &mut R,
 ) -> Result<(), AppFault> {
     let alloc = rt.alloc();
     let mut writer = io::writer(rt);
     match line.subcommand {
-        Subcommand::Live => answer_live(alloc, reader, &mut writer),
+        Subcommand::Live => answer_live(rt, alloc, reader, &mut writer),
         Subcommand::Mode(Mode::Tck) if line.explain => {
             judge_input(alloc, Style::Explained, reader, &mut writer)
         }

@@ -1,12 +1,17 @@
 //! A graph that is live for one use of it.
 
+ghost use Rattle.std.specs.Prelude.{IfOk};
 ghost use Rattle.rsx_live.specs.Starts.{IsStarted};
 
+use crate::threads::{Order, serve_order};
 use rsx_demo::{Demo, Val};
 use rsx_live::{LiveGraph, NotStarted, Poked, StartedGraph};
 use rsx_session::{Session, SessionRest};
 use rsx_types::{NoMemory, Signal, SubId};
 use std::alloc::Global;
+use std::sync::Wait;
+use std::thread::Threads;
+use std::time::Clock;
 
 /// The most moves of one poke.
 const BUDGET: u32 = 65_536;
@@ -42,14 +47,15 @@ pub enum Served {
 /// # Errors
 ///
 /// `NoMemory` where a growth was refused, and where the pieces can't be joined. Nothing comes back then.
-pub fn serve(
+pub fn serve<R: Threads + Wait + Sync + Clock>(
+    rt: &R,
     alloc: Global,
     session: Session,
     workers: u8,
     used: Use,
 ) -> Result<(Session, Served), NoMemory> {
     let (graph, mut rest) = session.take_apart();
-    let mut started = match LiveGraph::go_live(alloc, graph, workers) {
+    let started = match LiveGraph::go_live(alloc, graph, workers) {
         Ok(started) => started,
         Err(NotStarted::TooFewWorkers(graph)) => {
             return Ok((rest.put_together(graph), Served::TooFewWorkers));
@@ -57,60 +63,98 @@ pub fn serve(
         Err(NotStarted::NoMemory(_)) => return Err(NoMemory),
         Err(NotStarted::NotJoined) => return Err(NoMemory),
     };
-    let served = use_live(alloc, &mut started, &mut rest, used)?;
+    let (started, served) = use_live(rt, alloc, started, &mut rest, used)?;
     match started.close() {
         Ok(graph) => Ok((rest.put_together(graph), served)),
         Err(_) => Err(NoMemory),
     }
 }
 
-/// Pokes the regions until none makes a move, does what is to be done, and pokes them again.
-fn use_live(
+/// Serves the regions until none makes a move, does what is to be done, and serves them again.
+fn use_live<R: Threads + Wait + Sync + Clock>(
+    rt: &R,
     alloc: Global,
-    started: &mut StartedGraph<Demo>,
+    started: StartedGraph<Demo>,
     rest: &mut SessionRest,
     used: Use,
-) -> Result<Served, NoMemory>
-    requires { IsStarted started.old }
-    ensures { IsStarted started.new }
+) -> Result<(StartedGraph<Demo>, Served), NoMemory>
+    requires { IsStarted started }
+    ensures { IfOk result (λ r. IsStarted r.0) }
 {
     if let Use::Look = used {
-        return Ok(Served::NoTap);
+        return Ok((started, Served::NoTap));
     }
-    poke_until_idle(alloc, started)?;
-    let served = use_tap(alloc, started, rest, used)?;
-    poke_until_idle(alloc, started)?;
-    Ok(served)
+    let started = serve_until_idle(rt, alloc, started)?;
+    let (started, served) = use_tap(rt, alloc, started, rest, used)?;
+    let started = serve_until_idle(rt, alloc, started)?;
+    Ok((started, served))
+}
+
+/// Serves the regions on threads until none makes a move. What is only passed on at the end is passed on by the calling thread.
+fn serve_until_idle<R: Threads + Wait + Sync + Clock>(
+    rt: &R,
+    alloc: Global,
+    started: StartedGraph<Demo>,
+) -> Result<StartedGraph<Demo>, NoMemory>
+    requires { IsStarted started }
+    ensures { IfOk result IsStarted }
+{
+    let nothing = Order {
+        sub: SubId(0),
+        count: 0,
+    };
+    let mut started = started;
+    for _ in 0..u64::MAX {
+        let (served, _) = serve_order(rt, alloc, started, nothing)?;
+        started = served;
+        if !poke_each(alloc, &mut started, 1)? {
+            return passed_on(alloc, started);
+        }
+    }
+    Ok(started)
+}
+
+/// Has the calling thread pass on what is only passed on.
+fn passed_on(alloc: Global, started: StartedGraph<Demo>) -> Result<StartedGraph<Demo>, NoMemory>
+    requires { IsStarted started }
+    ensures { IfOk result IsStarted }
+{
+    let mut started = started;
+    poke_until_idle(alloc, &mut started)?;
+    Ok(started)
 }
 
 /// Does what is to be done by the subscription's tap.
-fn use_tap(
+fn use_tap<R: Threads + Wait + Sync + Clock>(
+    rt: &R,
     alloc: Global,
-    started: &mut StartedGraph<Demo>,
+    started: StartedGraph<Demo>,
     rest: &mut SessionRest,
     used: Use,
-) -> Result<Served, NoMemory>
-    requires { IsStarted started.old }
-    ensures { IsStarted started.new }
+) -> Result<(StartedGraph<Demo>, Served), NoMemory>
+    requires { IsStarted started }
+    ensures { IfOk result (λ r. IsStarted r.0) }
 {
+    let mut started = started;
     match used {
-        Use::Take(sub, count) if has_tap(started, sub) => {
-            let taken = take_signals(alloc, started, rest, sub, count)?;
-            Ok(Served::Done(taken))
+        Use::Take(sub, count) if has_tap(&started, sub) => {
+            let (started, taken) = take_signals(rt, alloc, started, rest, sub, count)?;
+            Ok((started, Served::Done(taken)))
         }
-        Use::Request(sub, count) if has_tap(started, sub) => {
+        Use::Request(sub, count) if has_tap(&started, sub) => {
             if let Some(error) = started.request(sub, count) {
                 rest.receive(sub, error)?;
             }
-            Ok(Served::Done(0))
+            Ok((started, Served::Done(0)))
         }
-        Use::Cancel(sub) if has_tap(started, sub) => {
+        Use::Cancel(sub) if has_tap(&started, sub) => {
             started.cancel(sub);
-            Ok(Served::Done(0))
+            Ok((started, Served::Done(0)))
         }
-        Use::Look | Use::Nothing | Use::Take(_, _) | Use::Request(_, _) | Use::Cancel(_) => Ok(
+        Use::Look | Use::Nothing | Use::Take(_, _) | Use::Request(_, _) | Use::Cancel(_) => Ok((
+            started,
             Served::NoTap,
-        ),
+        )),
     }
 }
 
@@ -119,40 +163,88 @@ fn has_tap(started: &StartedGraph<Demo>, sub: SubId) -> bool {
     started.taps.iter().any(|tap| tap.sub() == sub)
 }
 
-/// Takes at most so many signals, and answers how many were taken.
-fn take_signals(
+/// Takes at most so many signals while the regions are served on threads, and answers how many were taken. It is fewer only where none
+/// came once no region had anything to do.
+fn take_signals<R: Threads + Wait + Sync + Clock>(
+    rt: &R,
     alloc: Global,
-    started: &mut StartedGraph<Demo>,
+    started: StartedGraph<Demo>,
     rest: &mut SessionRest,
     sub: SubId,
     count: u64,
-) -> Result<u64, NoMemory>
-    requires { IsStarted started.old }
-    ensures { IsStarted started.new }
+) -> Result<(StartedGraph<Demo>, u64), NoMemory>
+    requires { IsStarted started }
+    ensures { IfOk result (λ r. IsStarted r.0) }
 {
-    for taken in 0..count {
-        match next_signal(alloc, started, sub)? {
-            Some(signal) => rest.receive(sub, signal)?,
-            None => return Ok(taken),
+    let mut started = started;
+    let mut taken: u64 = 0;
+    for _ in 0..count {
+        let left = count.saturating_sub(taken);
+        if left == 0 {
+            return Ok((started, taken));
         }
+        let (served, came) = take_some(rt, alloc, started, rest, sub, left)?;
+        started = served;
+        if came == 0 {
+            return Ok((started, taken));
+        }
+        taken = taken.saturating_add(came);
     }
-    Ok(count)
+    Ok((started, taken))
 }
 
-/// Takes the next signal. Where none waits, the regions are poked first.
-fn next_signal(
+/// Takes some of so many signals while the regions are served on threads, and answers how many were taken: none only where none came once
+/// no region had anything to do.
+fn take_some<R: Threads + Wait + Sync + Clock>(
+    rt: &R,
     alloc: Global,
-    started: &mut StartedGraph<Demo>,
+    started: StartedGraph<Demo>,
+    rest: &mut SessionRest,
     sub: SubId,
-) -> Result<Option<Signal<Val>>, NoMemory>
-    requires { IsStarted started.old }
-    ensures { IsStarted started.new }
+    count: u64,
+) -> Result<(StartedGraph<Demo>, u64), NoMemory>
+    requires { IsStarted started }
+    ensures { IfOk result (λ r. IsStarted r.0) }
 {
-    if let Some(signal) = started.take(sub) {
-        return Ok(Some(signal));
+    let (served, signals) = serve_order(rt, alloc, started, Order { sub, count })?;
+    let came = signals.len() as u64;
+    receive_all(rest, sub, signals)?;
+    if came > 0 {
+        return Ok((served, came));
     }
-    poke_until_idle(alloc, started)?;
-    Ok(started.take(sub))
+    let served = passed_on(alloc, served)?;
+    take_one(served, rest, sub)
+}
+
+/// Takes the next signal, if one waits, and answers how many were taken.
+fn take_one(
+    started: StartedGraph<Demo>,
+    rest: &mut SessionRest,
+    sub: SubId,
+) -> Result<(StartedGraph<Demo>, u64), NoMemory>
+    requires { IsStarted started }
+    ensures { IfOk result (λ r. IsStarted r.0) }
+{
+    let mut started = started;
+    match started.take(sub) {
+        Some(signal) => {
+            rest.receive(sub, signal)?;
+            Ok((started, 1))
+        }
+        None => Ok((started, 0)),
+    }
+}
+
+/// Keeps these signals of a subscription with the rest of the session.
+fn receive_all(
+    rest: &mut SessionRest,
+    sub: SubId,
+    signals: Vec<Signal<Val>>,
+) -> Result<(), NoMemory> {
+    for signal in signals {
+        rest.receive(sub, signal)?;
+    }
+    Ok(())
 }
 
 /// Pokes the regions in turns until none has anything to do. What is requested goes over at least one edge in each round, which no poke

@@ -1,0 +1,5 @@
+use Rattle.rsx_live.specs.Starts.{IsStarted}
+use Rattle.rsx_app.proofs.serving.serve_until_idle.Given as goal
+
+abbrev pub invariant-loop : goal.invariant-loop
+invariant-loop g l = IsStarted l.started
