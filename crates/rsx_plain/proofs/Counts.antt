@@ -1,6 +1,6 @@
 -- How many items an operator puts out: what its moves say, counted.
-use Rattle.std.proofs.Common.{◌≡◌, Bool, true, false, List, length, refl, sym, ap, ◌∙◌, subst}
-use Rattle.rsx_sources.specs.Prelude.{Meaning, Stream, ended_by, signals_then, Ending, Open, Done, Failed, Signal, Next, Complete, Error}
+use Rattle.std.proofs.Common.{◌≡◌, Bool, true, false, List, refl, sym, ◌∙◌, subst}
+use Rattle.rsx_sources.specs.Prelude.{Meaning, ended_by, signals_then, Ending, Open, Done, Failed, Signal, Next, Complete, Error}
 use Rattle.rsx_plain.specs.Moves.{Moves, has_ending}
 use Rattle.rsx_plain.specs.State.{plain_from, after_signal, after_ending, is_over, Counts}
 use Rattle.rsx_plain.specs.Operators.{gives, keeps_ending, over_after, counts_item}

@@ -1,4 +1,5 @@
 pub mod Balance
+pub mod Batches
 pub mod Counts
 pub mod Drained
 pub mod Ended

@@ -1,5 +1,5 @@
 -- What an operator answers an item in one go.
-use Rattle.std.specs.Prelude.{◌≡◌, false, List, [], ◌∷◌}
+use Rattle.std.specs.Prelude.{◌≡◌, ◌⊎◌, false, List, [], ◌∷◌}
 use Rattle.rsx_sources.specs.Prelude.{Meaning, Signal, Next}
 use Rattle.rsx_sources.specs.declared.machine.Passed.{Passed}
 use Rattle.rsx_sources.specs.declared.machine.Passed.TheVariants.{Item, Kept, Declined}
@@ -18,3 +18,11 @@ abbrev pub GoesThrough : {T : Type 0} → Meaning T → PlainState T → T → P
 GoesThrough m old x (Item y) new = PutsOut m old x (Next y ∷ []) new
 GoesThrough m old x Kept new = PutsOut m old x [] new
 GoesThrough m old x (Declined y) new = (y ≡ x) × (new ≡ old)
+
+-- each of these items went in, one after the other, and an item was put out for it, or nothing was
+abbrev pub GoThrough : {T : Type 0} → Meaning T → PlainState T → List T → List T → PlainState T → Type 0
+GoThrough m old [] ys new = (ys ≡ []) × (new ≡ old)
+GoThrough {T} m old (x ∷ xs) ys new =
+    (mid : PlainState T)
+    × ((PutsOut m old x [] mid × GoThrough m mid xs ys new)
+    ⊎ ((y : T) × (others : List T) × (ys ≡ y ∷ others) × PutsOut m old x (Next y ∷ []) mid × GoThrough m mid xs others new))

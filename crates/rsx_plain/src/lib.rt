@@ -16,7 +16,8 @@
 //!
 //! Each operator has a file: `map.rt`, `filter.rt`, `take.rt`, `scan.rt`, `buffer.rt` and `distinct.rt`. It has what the
 //! operator does with an item (`react`), how many items it wants (`want`), and what it answers in a chain (a trait of its own). What is
-//! the same for all, by one line each, stands in `state.rt`, `prepare.rt` and `rest.rt`.
+//! the same for all, by one line each, stands in `state.rt`, `prepare.rt` and `rest.rt`; items go one after the other through an
+//! operator in `batch.rt` ([`PassingAll`]).
 //!
 //! # Nodes
 //!
@@ -46,6 +47,7 @@
 //! The definitions stand in `specs/`: `Chain` (what comes out of a chain) and `Emissions` (what goes from one operator to the
 //! next at once). A chain over whole stream values is `chained` of `rsx_types`.
 
+pub mod batch;
 mod buffer;
 pub mod chain;
 mod distinct;
@@ -62,6 +64,7 @@ mod scan;
 pub mod state;
 mod take;
 
+pub use batch::PassingAll;
 pub use chain::{ChainState, Chaining, NewChain};
 pub use node::PlainNode;
 pub use operator::Operator;

@@ -13,6 +13,7 @@ pub mod Numbers
 pub mod OneByOne
 pub mod OverEdges
 pub mod Parts
+pub mod Plains
 pub mod Puts
 mod Ranges
 pub mod Regions

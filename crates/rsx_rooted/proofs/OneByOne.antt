@@ -1,7 +1,6 @@
 -- How a batch through a node is put together from single calls.
-use Rattle.std.proofs.Common.{◌≡◌, inl, inr, List, [], ◌∷◌, ◌++◌, refl, ap, sym, ◌∙◌, subst, append-nil}
-use Rattle.std.specs.Prelude.{reverse}
-use Rattle.std.proofs.lemmas.List.{reverse-append, append_assoc}
+use Rattle.std.proofs.Common.{◌≡◌, inl, inr, List, [], ◌∷◌, ◌++◌, ap, sym, ◌∙◌, subst, append-nil}
+use Rattle.std.proofs.lemmas.List.{append_assoc}
 use Rattle.rsx_rooted.specs.Items.{ArePassed, ArePopped}
 
 -- ---- items that come out of it
@@ -25,43 +24,6 @@ pub come : {T S : Type 0} (out : S → T → S → Type 0) (old now new : S) (do
 come {T} out old now new done on same =
     let D : List T → Type 0 = λ l. ArePopped out old l new in
     subst D (append-nil done) (on [] new same)
-
--- ---- items that go through it
-
--- what goes through the node as it is now, out of the items that are left, makes what goes through it as it was, behind what is done
-abbrev pub IsOnTheWay : {T S : Type 0} → (S → T → S → Type 0) → (S → T → S → Type 0) → S → List T → S → List T → List T → Type 0
-IsOnTheWay {T} {S} taken out old xs now rest done = (ys : List T) (new : S) → ArePassed taken out now rest ys new → ArePassed taken out old xs (done ++ ys) new
-
-pub begun : {T S : Type 0} (taken out : S → T → S → Type 0) (old : S) (xs rest done : List T) → rest ≡ xs → done ≡ [] → IsOnTheWay taken out old xs old rest done
-begun {T} taken out old xs rest done same none ys new h =
-    let X : List T → Type 0 = λ l. ArePassed taken out old l ys new in
-    let D : List T → Type 0 = λ l. ArePassed taken out old xs (l ++ ys) new in
-    subst D (sym none) (subst X same h)
-
-pub put_out : {T S : Type 0} (taken out : S → T → S → Type 0) (old : S) (xs : List T) (now mid next : S) (x y : T) (left rest done more : List T) →
-    IsOnTheWay taken out old xs now left done → left ≡ x ∷ rest → taken now x mid → out mid y next → more ≡ done ++ y ∷ [] → IsOnTheWay taken out old xs next rest more
-put_out {T} taken out old xs now mid next x y left rest done more on is t o all ys new h =
-    let D : List T → Type 0 = λ l. ArePassed taken out old xs l new in
-    let L : List T → Type 0 = λ l. ArePassed taken out now l (y ∷ ys) new in
-    let same : done ++ y ∷ ys ≡ more ++ ys = sym (ap (λ l. l ++ ys) all ∙ append_assoc done (y ∷ []) ys) in
-    subst D same (on (y ∷ ys) new (subst L (sym is) (mid, t, inr (y, ys, next, refl, o, h))))
-
-pub kept : {T S : Type 0} (taken out : S → T → S → Type 0) (old : S) (xs : List T) (now next : S) (x : T) (left rest done : List T) →
-    IsOnTheWay taken out old xs now left done → left ≡ x ∷ rest → taken now x next → IsOnTheWay taken out old xs next rest done
-kept {T} taken out old xs now next x left rest done on is t ys new h =
-    let L : List T → Type 0 = λ l. ArePassed taken out now l ys new in
-    on ys new (subst L (sym is) (next, t, inl h))
-
-pub ended : {T S : Type 0} (taken out : S → T → S → Type 0) (old : S) (xs : List T) (now new : S) (left done : List T) →
-    IsOnTheWay taken out old xs now left done → left ≡ [] → new ≡ now → ArePassed taken out old xs done new
-ended {T} taken out old xs now new left done on none same =
-    let D : List T → Type 0 = λ l. ArePassed taken out old xs l new in
-    let L : List T → Type 0 = λ l. ArePassed taken out now l [] new in
-    subst D (append-nil done) (on [] new (subst L (sym none) (refl, same)))
-
--- the last of a list is the first of it turned around
-pub turned : {T : Type 0} (all front : List T) (x : T) → all ≡ front ++ x ∷ [] → reverse all ≡ x ∷ reverse front
-turned all front x is = ap reverse is ∙ reverse-append front (x ∷ [])
 
 -- ---- through a node that stands in another
 

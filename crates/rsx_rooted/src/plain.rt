@@ -9,11 +9,10 @@ ghost use Rattle.rsx_plain.specs.declared.node.PlainNode.{PlainNode as PlainNode
 ghost use Rattle.rsx_plain.specs.declared.state.PlainState.{PlainState as PlainStateSpec};
 
 use crate::batch::{After, Batches, Noted};
-use rsx_plain::{PlainNode, PlainState};
-use rsx_sources::{Machine, OutSlot, Passed};
+use rsx_plain::{PassingAll, PlainNode, PlainState};
+use rsx_sources::{Machine, OutSlot};
 use rsx_types::Ops;
 use std::alloc::Global;
-use std::mem;
 
 /// An operator whose node can be copied.
 trait Copying<T: Drop> {
@@ -53,53 +52,6 @@ impl<T: Drop> Copying<T> for PlainState<T> {
             state,
             slot: OutSlot::new(),
         })
-    }
-}
-
-/// A node through which items go one after the other.
-trait PassingAll<T: Drop> {
-    ghost node: { Self → PlainNodeSpec T };
-
-    /// Lets items of an input go through the node one after the other. What it puts out for them is in `items` then. It answers no
-    /// where the node declines one of them, and where memory is refused.
-    fn pass_all<O: Ops<Item = T>>(
-        &mut self,
-        alloc: Global,
-        ops: &O,
-        input: u64,
-        items: &mut Vec<T>,
-        spare: &mut Vec<T>,
-    ) -> bool
-        ensures passed { result ≡ true → ArePassed (IsIn plain_machine (O.meaning ops.now) input) (IsOut plain_machine (O.meaning ops.now)) (node self.old) items.old.items items.new.items (node self.new) }
-        ensures most { result ≡ true → length items.new.items ≤ length items.old.items };
-}
-
-impl<T: Drop> PassingAll<T> for PlainNode<T> {
-    ghost node = { λ n. n };
-
-    #[inline(always)]
-    fn pass_all<O: Ops<Item = T>>(
-        &mut self,
-        alloc: Global,
-        ops: &O,
-        input: u64,
-        items: &mut Vec<T>,
-        spare: &mut Vec<T>,
-    ) -> bool {
-        spare.clear();
-        if spare.reserve(items.len()).is_err() {
-            return false;
-        }
-        items.reverse();
-        while let Some(item) = items.pop() {
-            match self.pass(alloc, ops, input, item) {
-                Passed::Item(out) => spare.push_reserved(out),
-                Passed::Kept => {}
-                Passed::Declined(_) => return false,
-            }
-        }
-        mem::swap(items, spare);
-        true
     }
 }
 
@@ -144,7 +96,7 @@ impl<T: Drop> Batches for PlainNode<T> {
         items: &mut Vec<T>,
         spare: &mut Vec<T>,
     ) -> Option<Noted<T>> {
-        if !self.slot.is_empty() {
+        if input != 0 || !self.slot.is_empty() {
             return None;
         }
         let took = items.len() as u64;
@@ -152,7 +104,7 @@ impl<T: Drop> Batches for PlainNode<T> {
             Some(node) => node,
             None => return None,
         };
-        match node.pass_all(alloc, ops, input, items, spare) {
+        match node.state.pass_all(alloc, ops, items, spare) {
             true => Some(Noted {
                 took,
                 after: After::Plain(node),
