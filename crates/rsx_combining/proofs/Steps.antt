@@ -1,15 +1,15 @@
 -- What the calls of a zip do, from the state in which the code found it.
 use Rattle.std.proofs.lemmas.List.{length-set}
 use Rattle.std.proofs.lemmas.Bool.{and_parts}
-use Rattle.std.proofs.Common.{◌≡◌, ℕ, ◌≤◌, ◌^◌, ◌&&◌, Bool, true, false, nat_lt, zero, suc, List, [], ◌∷◌, slice_index_or, slice_set, Option, Some, None, refl, ap, sym, ◌∙◌, subst}
-use Rattle.rsx_sources.specs.Prelude.{Done, Signal, Next, Meaning, Stream, ended_by, CountsIn, CountsStep, TakesIn, Keeps, front_of, IsResidualOf}
+use Rattle.std.proofs.Common.{◌≡◌, ℕ, ◌≤◌, ◌^◌, ◌&&◌, Bool, true, false, nat_lt, zero, suc, List, [], ◌∷◌, ◌++◌, slice_index_or, slice_set, Option, Some, None, option_map, inr, refl, ap, sym, ◌∙◌, subst}
+use Rattle.rsx_sources.specs.Prelude.{Note, Nothing, Picks, Ended, Done, Signal, Next, Meaning, Stream, ended_by, signal_then, CountsIn, CountsStep, TakesIn, Keeps, front_of, IsResidualOf, IsSteppedOut}
 use Rattle.rsx_queued.specs.declared.input.QueuedInput.{QueuedInput}
 use Rattle.rsx_queued.specs.declared.output.Output.{Output}
 use Rattle.rsx_queued.specs.declared.output.Output.TheVariants.{Empty, Waiting}
-use Rattle.rsx_queued.specs.Prelude.{with_signal, is_empty, output_then}
+use Rattle.rsx_queued.specs.Prelude.{with_signal, is_empty, has_ending, is_over, output_then}
 use Rattle.rsx_values.specs.Zip.{heads, zip}
 use Rattle.rsx_combining.specs.Inputs.{lefts, all_have_items, queued, all_shortened}
-use Rattle.rsx_combining.specs.Zip.{ZipState, recorded_ending, behind_ending, zip_of, zip_comes_out, zip_takes, zip_rows, IsZipRow, zip_recorded, zip_ended, zip_done, IsZipCounted, is_some_input}
+use Rattle.rsx_combining.specs.Zip.{ZipState, recorded_ending, behind_ending, zip_of, zip_comes_out, zip_waiting, zip_takes, zip_picks, zip_rows, IsZipRow, zip_popped, zip_recording, zip_recorded, zip_ended, zip_done, IsZipCounted, is_some_input}
 use Rattle.rsx_queued.proofs.Changed.{IsPut, is_put, put_done, put_ends}
 use Rattle.rsx_queued.proofs.Outputs.{empty_is}
 use Rattle.rsx_combining.proofs.Filled.{put_lefts, put_counted}
@@ -116,6 +116,39 @@ row_steps {T} m start old asked sent qs out y p =
     let Q : List (QueuedInput T) → Type 0 = λ l. CountsStep IsZipCounted zip_ended zip_done start (with_row start l out) in
     let R : Output T → Type 0 = λ o. CountsStep IsZipCounted zip_ended zip_done start (with_row start (all_shortened start.inputs) o) in
     subst P p.same (subst Q (sym p.shorter) (subst R (sym p.put) (row_counts start y can.some_input can.items can.empty)))
+
+-- a row of what was gathered so far, which is nothing, and of the first item of each input
+pub row_is : {T : Type 0} (m : Meaning T) (so_far : List T) (was qs : List (QueuedInput T)) (y : T) → y ≡ m.row_of (so_far ++ heads (queued was)) → so_far ≡ [] → was ≡ qs → y ≡ m.row_of (heads (queued qs))
+row_is m so_far was qs y is none same = is ∙ ap (λ l. m.row_of (l ++ heads (queued was))) none ∙ ap (λ l. m.row_of (heads (queued l))) same
+
+-- an item that waits comes out before what else comes
+row_leaves : {T : Type 0} (m : Meaning T) (out : Output T) (y : T) (qs : List (QueuedInput T)) (vs : List (Stream T)) (further : Note) → out ≡ Empty →
+    zip_of m (Waiting (Next y)) qs vs further ≡ option_map (signal_then (Next y)) (zip_of m out qs vs further)
+row_leaves m out y qs vs Nothing empty = refl
+row_leaves m out y qs vs (Picks cs) empty = refl
+row_leaves m out y qs vs (Ended o) empty = rw empty refl
+
+-- the row went out at once
+pub row_out : {T : Type 0} (m : Meaning T) (start old : ZipState T) (asked sent : ℕ) (qs : List (QueuedInput T)) (y : T) → IsRowMade m start old asked sent qs (Waiting (Next y)) y →
+    IsSteppedOut (zip_comes_out m) (zip_waiting m) zip_picks zip_rows IsZipRow zip_popped zip_recording zip_recorded IsZipCounted zip_ended zip_done old asked sent (Some y) (with_row start qs start.output)
+row_out {T} m start old asked sent qs y p =
+    let empty : start.output ≡ Empty = ap (λ n. n.output) p.same ∙ (can_make old asked sent p.enabled).empty in (
+      with_row start qs (Waiting (Next y)),
+      inr (record {
+        enabled = p.enabled;
+        row = row_rowed m start old asked sent qs (Waiting (Next y)) y p;
+        value = row_keeps m start old asked sent qs (Waiting (Next y)) y p;
+        notes = ap (λ n. Ended n.chosen) p.same;
+        counts = row_steps m start old asked sent qs (Waiting (Next y)) y p;
+      }),
+      record {
+        waited = refl;
+        popped_out = ((refl, empty), refl, refl);
+        value = λ inc further. row_leaves m start.output y qs (inc.first ∷ inc.others) further empty;
+        notes = refl;
+        counts = (ap has_ending empty, (λ taken n h. record { unchosen = h.unchosen; goes_on = ap is_over empty; some_input = h.some_input; few = h.few; counts = h.counts }), λ j d. d);
+      },
+    )
 
 -- ---- the rest
 

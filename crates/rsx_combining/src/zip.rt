@@ -352,6 +352,26 @@ impl<T: Drop> Machine for ZipNode<T> {
         }
     }
 
+    /// Makes a row, where one can be made, and hands it out at once.
+    fn step_item<O: Ops<Item = T>>(
+        &mut self,
+        alloc: Global,
+        ops: &O,
+        asked: u64,
+        sent: u64,
+    ) -> Option<T> {
+        if !self.can_row(asked, sent) {
+            return None;
+        }
+        match self.row.row_with(alloc, ops, self.inputs.as_mut_slice()) {
+            Ok(row) => {
+                self.row.clear();
+                Some(row)
+            }
+            Err(NoMemory) => None,
+        }
+    }
+
     fn want(&self, input: u64, asked: u64, sent: u64) -> u64 {
         credits_at(self.inputs.as_slice(), input)
     }

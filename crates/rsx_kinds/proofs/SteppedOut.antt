@@ -5,7 +5,7 @@ use Rattle.rsx_kinds.specs.Prelude.{FlatMapDelayNode, FlatMapNode, GroupByNode, 
 use Rattle.rsx_kinds.specs.Any.{any_picks, any_recording, any_rowed, any_rows}
 use Rattle.rsx_kinds.specs.Several.{several_picks, several_recording, several_rowed, several_rows}
 use Rattle.rsx_kinds.specs.declared.any_node.AnyNode.TheVariants.{Several, FlatMap, FlatMapDelay, GroupBy}
-use Rattle.rsx_kinds.specs.declared.several_node.SeveralNode.TheVariants.{Merge, MergeDelay, Latest}
+use Rattle.rsx_kinds.specs.declared.several_node.SeveralNode.TheVariants.{Merge, MergeDelay, Zip, Latest}
 use Rattle.rsx_merging.specs.declared.merge_node.MergeNode.{MergeNode}
 use Rattle.rsx_merging.specs.Merge.{merge_comes_out, merge_waiting, merge_picks, merge_recording, merge_popped, merge_recorded, merge_ended, merge_done, merge_counted}
 use Rattle.rsx_merging.specs.FlatMap.{flat_picks, flat_recording}
@@ -13,9 +13,10 @@ use Rattle.rsx_delayed.specs.declared.merge_delay_node.MergeDelayNode.{MergeDela
 use Rattle.rsx_delayed.specs.MergeDelay.{delayed_comes_out, delayed_waiting, delayed_picks, delayed_recording, delayed_popped, delayed_recorded, delayed_ended, delayed_done, delayed_counted}
 use Rattle.rsx_delayed.specs.FlatMapDelay.{flat_delay_picks, flat_delay_recording}
 use Rattle.rsx_grouping.specs.GroupBy.{group_picks, group_recording}
+use Rattle.rsx_combining.specs.Zip.{ZipState, zip_comes_out, zip_waiting, zip_picks, zip_rows, IsZipRow, zip_recording, zip_popped, zip_recorded, zip_ended, zip_done, IsZipCounted}
 use Rattle.rsx_combining.specs.Latest.{LatestState, latest_comes_out, latest_waiting, latest_picks, latest_recording, latest_popped, latest_recorded, latest_ended, latest_done, IsLatestCounted}
 use Rattle.rsx_kinds.proofs.Dispatch.{item_out_several, item_out_flat_map, item_out_flat_map_delay, item_out_group_by, stepped_several, stepped_flat_map, stepped_flat_map_delay, stepped_group_by}
-use Rattle.rsx_kinds.proofs.SeveralDispatch.{item_out_merge, item_out_merge_delay, item_out_latest, stepped_merge, stepped_merge_delay, stepped_latest}
+use Rattle.rsx_kinds.proofs.SeveralDispatch.{item_out_merge, item_out_merge_delay, item_out_zip, item_out_latest, stepped_merge, stepped_merge_delay, stepped_zip, stepped_latest}
 
 step_merge : {T : Type 0} (m : Meaning T) (old mid : MergeNode T) (asked sent : ℕ) → IsStepDone (merge_comes_out m) merge_picks (λ n a s. false) (λ n a s k. ⊥) merge_recording merge_recorded merge_counted merge_ended merge_done old asked sent mid →
     IsStepDone (several_comes_out m) several_picks several_rows several_rowed several_recording several_recorded several_counted several_ended several_done (Merge old) asked sent (Merge mid)
@@ -40,6 +41,18 @@ pub stepped_out_merge_delay : {T : Type 0} (m : Meaning T) (old new : MergeDelay
     IsSteppedOut (several_comes_out m) (several_waiting m) several_picks several_rows several_rowed several_popped several_recording several_recorded several_counted several_ended several_done (MergeDelay old) asked sent o (MergeDelay new)
 stepped_out_merge_delay m old new asked sent (Some x) h = (MergeDelay h.0, step_merge_delay m old h.0 asked sent h.1, item_out_merge_delay m h.0 new (Some x) h.2)
 stepped_out_merge_delay m old new asked sent None h = ap MergeDelay h
+
+step_zip : {T : Type 0} (m : Meaning T) (old mid : ZipState T) (asked sent : ℕ) → IsStepDone (zip_comes_out m) zip_picks zip_rows IsZipRow zip_recording zip_recorded IsZipCounted zip_ended zip_done old asked sent mid →
+    IsStepDone (several_comes_out m) several_picks several_rows several_rowed several_recording several_recorded several_counted several_ended several_done (Zip old) asked sent (Zip mid)
+step_zip m old mid asked sent (inl p) =
+    let h = p.1 in
+    inl (p.0, record { enabled = h.enabled; value = h.value; notes = h.notes; composes = h.composes; counts = stepped_zip old mid h.counts })
+step_zip m old mid asked sent (inr h) = inr (record { enabled = h.enabled; row = h.row; value = h.value; notes = h.notes; counts = stepped_zip old mid h.counts })
+
+pub stepped_out_zip : {T : Type 0} (m : Meaning T) (old new : ZipState T) (asked sent : ℕ) (o : Option T) → IsSteppedOut (zip_comes_out m) (zip_waiting m) zip_picks zip_rows IsZipRow zip_popped zip_recording zip_recorded IsZipCounted zip_ended zip_done old asked sent o new →
+    IsSteppedOut (several_comes_out m) (several_waiting m) several_picks several_rows several_rowed several_popped several_recording several_recorded several_counted several_ended several_done (Zip old) asked sent o (Zip new)
+stepped_out_zip m old new asked sent (Some x) h = (Zip h.0, step_zip m old h.0 asked sent h.1, item_out_zip m h.0 new (Some x) h.2)
+stepped_out_zip m old new asked sent None h = ap Zip h
 
 step_latest : {T : Type 0} (m : Meaning T) (old mid : LatestState T) (asked sent : ℕ) → IsStepDone (latest_comes_out m) latest_picks (λ n a s. false) (λ n a s k. ⊥) latest_recording latest_recorded IsLatestCounted latest_ended latest_done old asked sent mid →
     IsStepDone (several_comes_out m) several_picks several_rows several_rowed several_recording several_recorded several_counted several_ended several_done (Latest old) asked sent (Latest mid)

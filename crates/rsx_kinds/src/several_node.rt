@@ -316,9 +316,10 @@ impl<T: Drop> Machine for SeveralNode<T> {
         sent: u64,
     ) -> Option<T> {
         match self {
-            SeveralNode::Concat(_) | SeveralNode::Zip(_) => None,
+            SeveralNode::Concat(_) => None,
             SeveralNode::Merge(node) => node.step_item(alloc, ops, asked, sent),
             SeveralNode::MergeDelay(node) => node.step_item(alloc, ops, asked, sent),
+            SeveralNode::Zip(node) => node.step_item(alloc, ops, asked, sent),
             SeveralNode::Latest(node) => node.step_item(alloc, ops, asked, sent),
         }
     }
