@@ -13,6 +13,8 @@ mod passes;
 #[cfg(test)]
 mod places;
 #[cfg(test)]
+mod regions;
+#[cfg(test)]
 mod rests;
 #[cfg(test)]
 mod visits;
