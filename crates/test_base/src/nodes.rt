@@ -75,29 +75,33 @@ const MERGE: [Act; 20] = [
     Act::Recorded(&[1, 0, 0, 0, 1]),
 ];
 
-/// The first input has 1 2 and the completion, the second 5 and a failure: one row, and then the failure. A row without memory leaves the
-/// items.
-const ZIP: [Act; 20] = [
+/// The first input has 1 2 3 and the completion, the second 5 6 and a failure: two rows, of which the second goes out at once, and then the
+/// failure. A row without memory leaves the items.
+const ZIP: [Act; 24] = [
     Act::Wants(0, 9, 0, 4),
     Act::CannotRow(9, 0),
     Act::Takes(0, 1),
     Act::Takes(0, 2),
+    Act::Takes(0, 3),
     Act::Ends(0, Ending::Done),
     Act::Takes(1, 5),
+    Act::Takes(1, 6),
     Act::Ends(1, FAILURE),
     Act::PicksNothing(9, 0),
     Act::CannotRow(0, 0),
+    Act::StepGivesNothing(0, 0),
     Act::RowWithoutMemory(9, 0),
     Act::GivesNothing,
     Act::MakesRow(9, 0),
     Act::GivesItem(5),
-    Act::CannotRow(9, 1),
-    Act::CannotPick(0, 9, 1),
-    Act::Picks(1, 9, 1),
+    Act::StepGives(9, 1, 6),
+    Act::CannotRow(9, 2),
+    Act::CannotPick(0, 9, 2),
+    Act::Picks(1, 9, 2),
     Act::HasEnded,
     Act::EndedBy(1),
     Act::GivesEnding(FAILURE),
-    Act::CannotPick(0, 9, 1),
+    Act::CannotPick(0, 9, 2),
 ];
 
 /// The second input has 2 and 4, the first has 1. An item that gives no row needs no demand; one that does may go out as the row at once.
