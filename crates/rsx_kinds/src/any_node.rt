@@ -369,6 +369,32 @@ impl<T: Drop> Machine for AnyNode<T> {
         }
     }
 
+    #[inline(always)]
+    fn never_steps(&self) -> bool {
+        match self {
+            AnyNode::Source(_) | AnyNode::Plain(_) | AnyNode::PublishOn(_) | AnyNode::Window(_) =>
+                true,
+            AnyNode::Several(node) => node.never_steps(),
+            AnyNode::PublishOnEager(_)
+            | AnyNode::FlatMap(_)
+            | AnyNode::FlatMapDelay(_)
+            | AnyNode::GroupBy(_) => false,
+        }
+    }
+
+    #[inline(always)]
+    fn steps_out(&self) -> bool {
+        match self {
+            AnyNode::Several(_) | AnyNode::FlatMap(_) | AnyNode::FlatMapDelay(_) => true,
+            AnyNode::Source(_)
+            | AnyNode::Plain(_)
+            | AnyNode::PublishOn(_)
+            | AnyNode::PublishOnEager(_)
+            | AnyNode::Window(_)
+            | AnyNode::GroupBy(_) => false,
+        }
+    }
+
     #[inline]
     fn step_item<O: Ops<Item = T>>(
         &mut self,

@@ -234,6 +234,16 @@ impl<N: Machine> Machine for Boxed<N> {
         self.node.on_row(alloc, ops, asked, sent)
     }
 
+    #[inline(always)]
+    fn never_steps(&self) -> bool {
+        self.node.never_steps()
+    }
+
+    #[inline(always)]
+    fn steps_out(&self) -> bool {
+        self.node.steps_out()
+    }
+
     #[inline]
     fn step_item<O: Ops<Item = Self::Item>>(
         &mut self,

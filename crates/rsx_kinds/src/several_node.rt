@@ -307,6 +307,17 @@ impl<T: Drop> Machine for SeveralNode<T> {
         }
     }
 
+    #[inline(always)]
+    fn never_steps(&self) -> bool {
+        match self {
+            SeveralNode::Concat(_) => true,
+            SeveralNode::Merge(_)
+            | SeveralNode::MergeDelay(_)
+            | SeveralNode::Zip(_)
+            | SeveralNode::Latest(_) => false,
+        }
+    }
+
     #[inline]
     fn step_item<O: Ops<Item = T>>(
         &mut self,

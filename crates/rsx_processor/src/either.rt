@@ -232,6 +232,22 @@ impl<A: Machine, B: Machine<Item = A::Item>> Machine for EitherNode<A, B> {
         }
     }
 
+    #[inline(always)]
+    fn never_steps(&self) -> bool {
+        match self {
+            EitherNode::Left(node) => node.never_steps(),
+            EitherNode::Right(node) => node.never_steps(),
+        }
+    }
+
+    #[inline(always)]
+    fn steps_out(&self) -> bool {
+        match self {
+            EitherNode::Left(node) => node.steps_out(),
+            EitherNode::Right(node) => node.steps_out(),
+        }
+    }
+
     #[inline]
     fn step_item<O: Ops<Item = A::Item>>(
         &mut self,

@@ -1,13 +1,15 @@
 -- An item that goes through an empty queue at once.
 use Rattle.std.proofs.Common.{◌≡◌, ℕ, zero, suc, ◌+◌, ◌<◌, Bool, true, ◌&&◌, ◌||◌, List, [], ◌∷◌, ◌++◌, length, Option, Some, None, refl, ap, sym, ◌∙◌, subst, arith, option_map, inl, inr}
-use Rattle.std.proofs.lemmas.Bool.{true≢false}
+use Rattle.std.proofs.lemmas.Bool.{lt-ltb, true≢false}
 use Rattle.rsx_sources.specs.Prelude.{CAPACITY, Signal, Next, Meaning, Stream, signal_then, CountsStep, Keeps, LetsGo, front_of, IsItemOut, IsRowDone, IsStepDone, IsSteppedOut, is_nil}
+use Rattle.rsx_sources.specs.declared.machine.Front.{Front}
+use Rattle.rsx_sources.specs.declared.machine.Front.TheVariants.{Item}
 use Rattle.rsx_sources.specs.declared.machine.Machine.{Ghosts as Machine}
 use Rattle.rsx_queued.specs.declared.queued.Queued.{Queued}
 use Rattle.rsx_queued.specs.declared.sender.Sender.TheVariants.{Crossing}
 use Rattle.rsx_queued.specs.declared.tail.Tail.{Tail}
 use Rattle.rsx_queued.specs.declared.tail.Tail.TheVariants.{Open, Completion, Failure, Taken}
-use Rattle.rsx_queued.specs.Held.{held_then, comes_in_at}
+use Rattle.rsx_queued.specs.Held.{held_then, comes_in_at, is_open}
 use Rattle.rsx_queued.specs.QueuedLaws.{Shows}
 use Rattle.rsx_queued.specs.Queued.{queued_comes_out, queued_waiting, queued_picks, queued_rows, queued_popped, queued_counted, queued_ended, queued_done, can_move, can_transfer, node_sent}
 use Rattle.rsx_queued.specs.Sender.{sender_comes_out, sender_waiting, sender_picks, sender_rows, sender_rowed, sender_popped, sender_recording, sender_recorded, sender_counted, sender_ended, sender_done}
@@ -86,6 +88,19 @@ gone {M} {T} b m shows old n' asked taken x none can out =
     by Completion e = cc
     by (Failure c) e = cc
     by Taken e = cc
+
+-- where an item waits in the node, the queue is empty and open, and fewer items were sent than asked for, that item could go into it
+pub could : {M T : Type 0} (b : Machine M T) (m : Meaning T) → Shows b m → (old : Queued M T) (asked taken : ℕ) (x : T) → true ≡ is_nil old.queue → true ≡ is_open old.tail → node_sent old.queue asked taken < asked → b.waiting m old.node ≡ Some (Next x) →
+    true ≡ can_transfer b old asked taken
+could {T = T} b m shows old asked taken x none opened less waited =
+    sym (by (b.shown old.node) old.queue old.tail none opened (shows old.node ∙ ap (option_map front_of) waited) less)
+  where
+    by : (f : Option Front) (q : List T) (t : Tail) → true ≡ is_nil q → true ≡ is_open t → f ≡ Some Item → node_sent q asked taken < asked → can_move f q t asked taken ≡ true
+    by f [] Open e o shown l = subst (λ g. can_move {T = T} g [] Open asked taken ≡ true) (sym shown) (lt-ltb (node_sent {T = T} [] asked taken) asked l)
+    by f (y ∷ ys) t e o shown l = cc
+    by f [] Completion e o shown l = cc
+    by f [] (Failure c) e o shown l = cc
+    by f [] Taken e o shown l = cc
 
 step_over : {M T : Type 0} (b : Machine M T) (m : Meaning T) (old mid : Queued M T) (asked taken : ℕ) → IsStepDone (queued_comes_out b m) (queued_picks b) (queued_rows b) (IsQueuedRow b) (λ k i. b.recording k.node i) (λ k. b.recorded k.node) (queued_counted b) (queued_ended b) (queued_done b) old asked taken mid →
     IsStepDone (sender_comes_out b m) (sender_picks b) (sender_rows b) (sender_rowed b) (sender_recording b) (sender_recorded b) (sender_counted b) (sender_ended b) (sender_done b) (Crossing old) asked taken (Crossing mid)

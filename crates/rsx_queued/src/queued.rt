@@ -341,7 +341,8 @@ impl<M: Machine<Item = T>, T: Drop> Machine for Queued<M, T> {
         }
     }
 
-    /// The item that the node offers goes out at once where the queue is empty and the item could go into it. That is a row.
+    /// The item that the node offers goes out at once where the queue is empty and the item could go into it. That is a row. Whether it
+    /// offers one is told by taking it.
     #[inline(never)]
     fn step_item<O: Ops<Item = T>>(
         &mut self,
@@ -350,7 +351,10 @@ impl<M: Machine<Item = T>, T: Drop> Machine for Queued<M, T> {
         asked: u64,
         sent: u64,
     ) -> Option<T> {
-        if !self.queue.is_empty() || !self.can_transfer(asked, sent) {
+        if !self.queue.is_empty() || !self.tail.is_open() {
+            return None;
+        }
+        if self.sent(asked, sent) >= asked {
             return None;
         }
         match self.node.pop_item(alloc, ops) {

@@ -229,6 +229,22 @@ impl<M: Machine<Item = T>, T: Drop> Machine for Sender<M, T> {
         }
     }
 
+    #[inline(always)]
+    fn never_steps(&self) -> bool {
+        match self {
+            Sender::Direct(node) => node.never_steps(),
+            Sender::Crossing(_) => false,
+        }
+    }
+
+    #[inline(always)]
+    fn steps_out(&self) -> bool {
+        match self {
+            Sender::Direct(node) => node.steps_out(),
+            Sender::Crossing(_) => true,
+        }
+    }
+
     #[inline]
     fn step_item<O: Ops<Item = T>>(
         &mut self,

@@ -5,7 +5,7 @@ ghost use Rattle.std.specs.Prelude.{◌≡◌, IfSome, true};
 use crate::sink::Sink;
 use crate::{Batch, Batches, carry_all, fetch_batch, room_over};
 use rsx_sources::{Front, Machine, NotMade};
-use rsx_tree::{Edge, Inputs, Node, NodeMove};
+use rsx_tree::{Edge, Node, NodeMove};
 use rsx_types::{NoMemory, Ops, Signal};
 use std::alloc::Global;
 
@@ -332,8 +332,8 @@ impl<M: Machine> Rooted<M> {
         ensures err { OnErr result (IsFetched M.Machine (O.meaning ops.now) left.old self.old None left.new self.new) }
     {
         let mut first = None;
-        // A root with several inputs gives an item out at most calls, others seldom do, and then it is cheaper to look for a step first.
-        if !has_several(&self.tree.inputs) {
+        // Where a step seldom gives an item out at once, it is cheaper to look for one first.
+        if !self.tree.machine.steps_out() {
             first = self.tree.first_step(&self.root);
             if first.is_none() {
                 return Ok(None);
@@ -554,18 +554,6 @@ impl<M: Machine> Rooted<M> {
             Some(step) => false,
             None => true,
         }
-    }
-}
-
-/// Whether a node with these inputs has several. The answer promises nothing.
-#[inline]
-fn has_several<M>(inputs: &Inputs<M>) -> bool {
-    match inputs {
-        Inputs::End => false,
-        Inputs::More(_, _, _, beside) => match &**beside {
-            Inputs::End => false,
-            Inputs::More(_, _, _, _) => true,
-        },
     }
 }
 

@@ -63,6 +63,10 @@ pub record IsHungryAt {S : Type 0} (takes : S → ℕ → Front → Bool) (done 
 abbrev pub CanStep : {S : Type 0} → (S → ℕ → ℕ → ℕ → Bool) → (S → ℕ → ℕ → Bool) → S → ℕ → ℕ → Type 0
 CanStep picks rows n asked sent = ((i : ℕ) × (i < 2 ^ 64) × (picks n i asked sent ≡ true)) ⊎ (rows n asked sent ≡ true)
 
+-- no input can be picked and no row made, whatever is asked of the node
+abbrev pub NeverSteps : {S : Type 0} → (S → ℕ → ℕ → ℕ → Bool) → (S → ℕ → ℕ → Bool) → S → Type 0
+NeverSteps picks rows n = (asked sent : ℕ) → ((i : ℕ) → picks n i asked sent ≡ false) × (rows n asked sent ≡ false)
+
 -- the node waits for the hub that it reads
 abbrev pub IsReading : {S : Type 0} → (S → Option Reading) → S → Type 0
 IsReading reads n = (r : Reading) × (reads n ≡ Some r)

@@ -1,5 +1,5 @@
 -- What files of the crates above import most, in one place.
-pub use Rattle.rsx_sources.specs.Counts.{AreWithin, CanStep, CountsIn, CountsOut, CountsStep, IsHungry, IsReading, ends_input, one_more, taken_after}
+pub use Rattle.rsx_sources.specs.Counts.{AreWithin, CanStep, CountsIn, CountsOut, CountsStep, IsHungry, IsReading, NeverSteps, ends_input, one_more, taken_after}
 pub use Rattle.rsx_sources.specs.Endings.{ended_or, has_ending}
 pub use Rattle.rsx_sources.specs.Heads.{head_of}
 pub use Rattle.rsx_sources.specs.Items.{GivesItems, ItemsLeft, items_comes_out, items_popped, items_shown, items_waiting}

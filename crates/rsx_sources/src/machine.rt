@@ -124,7 +124,7 @@ pub trait Machine {
 
     ghost use Rattle.std.specs.Prelude.{◌≡◌, ◌<◌, ◌^◌, ◌∷◌, ◌++◌, length, OnOk, OnErr, IfOk, IfErr, IfSome, IfNone, IsOk, Some, None, true, false, option_map};
     ghost use Rattle.rsx_types.specs.Notes.{note_then, unchosen};
-    ghost use Rattle.rsx_sources.specs.Counts.{CountsIn, CountsOut, CountsStep, CanStep, IsHungry, AreWithin, ends_input};
+    ghost use Rattle.rsx_sources.specs.Counts.{CountsIn, CountsOut, CountsStep, CanStep, IsHungry, NeverSteps, AreWithin, ends_input};
     ghost use Rattle.rsx_sources.specs.Machine.{IsComposed, Keeps, TakesIn, Records, front_of, incoming_of};
     ghost use Rattle.rsx_sources.specs.Passed.{IsItemOut, IsPassed, IsSteppedOut};
     ghost use Rattle.rsx_sources.specs.Reading.{IsReadOn, IsResidualOf, takes_published, hub_of};
@@ -273,6 +273,21 @@ pub trait Machine {
         ensures memory { step_allocates (O.allocates ops.now) self.old ≡ false → IfErr result (λ e. e ≡ NotMade.NotEnabled) }
         ensures alike { StaysAlike reads crosses pop_allocates signal_allocates step_allocates self.old self.new }
         ensures same { OnErr result (self.new ≡ self.old) };
+
+    /// Whether the node never picks an input nor makes a row, so that nobody has to ask it. The answer no promises nothing.
+    #[inline(always)]
+    fn never_steps(&self) -> bool
+        ensures { result ≡ true → NeverSteps picks rows self.now }
+    {
+        false
+    }
+
+    /// Whether a step of the node mostly gives an item out at once ([`Machine::step_item`]), so that it is worth to try that before a
+    /// look for a step. The answer promises nothing.
+    #[inline(always)]
+    fn steps_out(&self) -> bool {
+        false
+    }
 
     /// Makes a pick or a row, as `next_pick` and `on_pick`, or `on_row`, do, and takes the item out that the node then offers, as
     /// `pop_item` does; the item doesn't have to wait in the node. A node may answer nothing to any call; then it is unchanged,

@@ -6,6 +6,7 @@ use Rattle.rsx_sources.specs.declared.machine.Front.TheVariants.{Item as ItemFro
 use Rattle.rsx_sources.specs.declared.machine.Machine.{Ghosts as Machine}
 use Rattle.rsx_tree.specs.declared.edge.Edge.{Edge}
 use Rattle.rsx_tree.specs.declared.fetch.Handed.TheVariants.{Item, Kept, Back}
+use Rattle.rsx_tree.specs.declared.fetch.Pulled.{Pulled}
 use Rattle.rsx_tree.specs.declared.fetch.Pulled.TheVariants.{Item as AnItem, Moved, Nothing}
 use Rattle.rsx_tree.specs.declared.inputs.Inputs.{Inputs, More'}
 use Rattle.rsx_tree.specs.declared.inputs.Inputs.TheViews.{More}
@@ -129,6 +130,12 @@ pulled_step_out {M} b m budget e n n1 n' below below' x some same h =
     )
 
 -- a run below it led to an item
+pub pulled_from : {M T : Type 0} (b : Machine M T) (m : Meaning T) (budget left : ℕ) (e : Edge) (n n1 n' : M) (below was now : Inputs M) (r : Pulled T) → n1 ≡ n → was ≡ below → IsPulled b m budget e n1 was r left n' now → IsPulled b m budget e n below r left n' now
+pulled_from {M} b m budget left e n n1 n' below was now r same at h =
+    let N : M → Type 0 = λ k. IsPulled b m budget e k below r left n' now in
+    let W : Inputs M → Type 0 = λ k. IsPulled b m budget e n1 k r left n' now in
+    subst N same (subst W at h)
+
 pub pulled_item : {M T : Type 0} (b : Machine M T) (m : Meaning T) (budget left : ℕ) (e : Edge) (n n1 n' : M) (below was now : Inputs M) (x : T) → n1 ≡ n → was ≡ below → IsRowFetched b m budget 0 e.demand.asked e.demand.sent n1 was (Some x) left n' now → IsPulled b m budget e n below (AnItem x) left n' now
 pulled_item {M} b m budget left e n n1 n' below was now x same at h =
     let N : M → Type 0 = λ k. IsPulled b m budget e k below (AnItem x) left n' now in

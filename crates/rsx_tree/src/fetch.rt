@@ -109,9 +109,11 @@ impl<M: Machine> Inputs<M> {
         if let Some(item) = sender.pop_item(alloc, ops) {
             return Pulled::Item(item);
         }
-        let before = *left;
-        if before == 0 {
+        if *left == 0 {
             return Pulled::Nothing;
+        }
+        if sender.never_steps() {
+            return self.pull_below(alloc, ops, edge, sender, left);
         }
         if let Some(item) = step_item_over(alloc, ops, edge, sender, self) {
             *left -= 1;
@@ -125,6 +127,23 @@ impl<M: Machine> Inputs<M> {
             Ok(false) => {}
             Err(NoMemory) => return Pulled::Nothing,
         }
+        self.pull_below(alloc, ops, edge, sender, left)
+    }
+
+    /// Makes moves of the row below the sender until that offers an item, and takes it out.
+    #[cycle(fetch)]
+    #[inline(always)]
+    fn pull_below<O: Ops<Item = M::Item>>(
+        &mut self,
+        alloc: Global,
+        ops: &O,
+        edge: &Edge,
+        sender: &mut M,
+        left: &mut u32,
+    ) -> Pulled<M::Item>
+        ensures { IsPulled M.Machine (O.meaning ops.now) left.old edge.now sender.old self.old result left.new sender.new self.new }
+    {
+        let before = *left;
         match self.fetch_row(
             alloc,
             ops,

@@ -352,6 +352,9 @@ fn first_step<M: Machine>(edge: &Edge, node: &M, at: u32) -> Option<NodeMove>
     ensures some { IfSome result (λ e. IsStepEnabled M.Machine (over edge.now node.now) at e) }
     ensures none { IfNone result (IsStill M.Machine (Some (over edge.now node.now))) }
 {
+    if node.never_steps() {
+        return None;
+    }
     if !edge.is_live() {
         return None;
     }

@@ -1,10 +1,10 @@
-use Rattle.std.proofs.Common.{◌≡◌, ◌∙◌, true, arith, rules}
+use Rattle.std.proofs.Common.{◌≡◌, ◌∙◌, true, refl, arith, rules}
 use Rattle.std.specs.Box.{with_value}
 use Rattle.rsx_tree.specs.Inputs.{size}
 use Rattle.rsx_tree.specs.declared.inputs.Inputs.TheViews.{More}
 use Rattle.rsx_tree.proofs.Changes.{Rest}
 use Rattle.rsx_tree.proofs.Drives.{IsUnderWay, size_run, under_way_asked}
-use Rattle.rsx_tree.proofs.Fetches.{below_smaller, fetched_beside, fetched_none, fetched_then, handed_back, handed_item, handed_kept, pulled_item, pulled_moved, pulled_run, pulled_step, pulled_step_out, run_over}
+use Rattle.rsx_tree.proofs.Fetches.{below_smaller, fetched_beside, fetched_none, fetched_then, handed_back, handed_item, handed_kept, pulled_from, pulled_item, pulled_moved, pulled_run, pulled_step, pulled_step_out, run_over}
 use Rattle.rsx_tree.proofs.inputs.Inputs.+fetch.Goals as goal
 
 pub fetch-returns-then-left-eq0 : goal.fetch-returns-then-left-eq0
@@ -98,25 +98,32 @@ fetch_row-returns-in-None g t c =
 
 pub pull-returns-in-Ok-true : goal.pull-returns-in-Ok-true
 pull-returns-in-Ok-true g t c =
-    let some = c.if-before-eq0.false in
+    let some = c.if-left-eq0.false in
     let none = c.in_default-step_item_over.ensures.out in
     pulled_step g.M.Machine (g.O.Ops.meaning c.args.ops.now) c.args.left.now c.args.edge.now c.args.sender.now c.step_item_over.new.node c.step_over.new.node c.args.self.now c.step_item_over.new.below c.step_over.new.below (omega (arith, some)) (none.0 ∙ c.in_default.ensures.none) none.1 (c.in-Ok-true.ensures.made c.in-Ok-true.field-0-test)
 
-pub pull-returns-in-Some-fetch_row : goal.pull-returns-in-Some-fetch_row
-pull-returns-in-Some-fetch_row g t c =
-    let still = c.in-Ok-false.ensures.same c.in-Ok-false.field-0-test in
-    let none = c.in_default-step_item_over.ensures.out in
-    pulled_item g.M.Machine (g.O.Ops.meaning c.args.ops.now) c.args.left.now c.fetch_row.new.left c.args.edge.now c.args.sender.now c.step_over.new.node c.fetch_row.new.receiver c.args.self.now c.step_over.new.below c.fetch_row.new.self c.in-Some-fetch_row.item
-    (still.0 ∙ none.0 ∙ c.in_default.ensures.none) (still.1 ∙ none.1) c.in-Some-fetch_row.ensures
+pub pull-returns-then-never_steps : goal.pull-returns-then-never_steps
+pull-returns-then-never_steps g t c =
+    pulled_from g.M.Machine (g.O.Ops.meaning c.args.ops.now) c.args.left.now c.pull_below.new.left c.args.edge.now c.args.sender.now c.pop_item.new.self c.pull_below.new.sender c.args.self.now c.args.self.now c.pull_below.new.self c.pull_below.result c.in_default.ensures.none refl c.pull_below.ensures
 
-pub pull-returns-else-left-before : goal.pull-returns-else-left-before
-pull-returns-else-left-before g t c =
+pub pull-returns : goal.pull-returns
+pull-returns g t c =
     let still = c.in-Ok-false.ensures.same c.in-Ok-false.field-0-test in
     let none = c.in_default-step_item_over.ensures.out in
+    pulled_from g.M.Machine (g.O.Ops.meaning c.args.ops.now) c.args.left.now c.pull_below-2.new.left c.args.edge.now c.args.sender.now c.step_over.new.node c.pull_below-2.new.sender c.args.self.now c.step_over.new.below c.pull_below-2.new.self c.pull_below-2.result
+    (still.0 ∙ none.0 ∙ c.in_default.ensures.none) (still.1 ∙ none.1) c.pull_below-2.ensures
+
+pub pull_below-returns-in-Some : goal.pull_below-returns-in-Some
+pull_below-returns-in-Some g t c =
+    pulled_item g.M.Machine (g.O.Ops.meaning c.args.ops.now) c.args.left.now c.fetch_row.new.left c.args.edge.now c.args.sender.now c.args.sender.now c.fetch_row.new.receiver c.args.self.now c.args.self.now c.fetch_row.new.self c.in-Some.item
+    refl refl c.in-Some.ensures
+
+pub pull_below-returns-else-left-before : goal.pull_below-returns-else-left-before
+pull_below-returns-else-left-before g t c =
     pulled_moved g.M.Machine (g.O.Ops.meaning c.args.ops.now) c.args.left.now c.fetch_row.new.left c.args.edge.now c.args.sender.now c.fetch_row.new.receiver c.args.self.now c.fetch_row.new.self c.if-left-before.false
-    (pulled_run g.M.Machine (g.O.Ops.meaning c.args.ops.now) c.args.left.now c.fetch_row.new.left c.args.edge.now c.args.sender.now c.step_over.new.node c.fetch_row.new.receiver c.args.self.now c.step_over.new.below c.fetch_row.new.self (still.0 ∙ none.0 ∙ c.in_default.ensures.none) (still.1 ∙ none.1) c.in-None.ensures)
+    (pulled_run g.M.Machine (g.O.Ops.meaning c.args.ops.now) c.args.left.now c.fetch_row.new.left c.args.edge.now c.args.sender.now c.args.sender.now c.fetch_row.new.receiver c.args.self.now c.args.self.now c.fetch_row.new.self refl refl c.in-None.ensures)
 
 pub pull-returns-in-Some-step_item_over : goal.pull-returns-in-Some-step_item_over
 pull-returns-in-Some-step_item_over g t c =
-    let some = c.if-before-eq0.false in
+    let some = c.if-left-eq0.false in
     pulled_step_out g.M.Machine (g.O.Ops.meaning c.args.ops.now) c.args.left.now c.args.edge.now c.args.sender.now c.pop_item.new.self c.step_item_over.new.node c.args.self.now c.step_item_over.new.below c.in-Some-step_item_over.item (omega (arith, some)) c.in_default.ensures.none c.in-Some-step_item_over.ensures.out

@@ -7,16 +7,19 @@ use Rattle.rsx_tree.proofs.inputs.Inputs.+fetch.Given as goal
 
 -- one function calls the other on the same row
 abbrev pub decreases-fetch : goal.decreases-fetch
-decreases-fetch g l = size l.self.now * 3
+decreases-fetch g l = size l.self.now * 4
 
 abbrev pub decreases-fetch_beside : goal.decreases-fetch_beside
-decreases-fetch_beside g l = size l.self.now * 3
+decreases-fetch_beside g l = size l.self.now * 4
 
 abbrev pub decreases-fetch_row : goal.decreases-fetch_row
-decreases-fetch_row g l = size l.self.now * 3 + 1
+decreases-fetch_row g l = size l.self.now * 4 + 1
+
+abbrev pub decreases-pull_below : goal.decreases-pull_below
+decreases-pull_below g l = size l.self.now * 4 + 2
 
 abbrev pub decreases-pull : goal.decreases-pull
-decreases-pull g l = size l.self.now * 3 + 2
+decreases-pull g l = size l.self.now * 4 + 3
 
 abbrev pub decreases-fetch-items : goal.decreases-fetch-items
 decreases-fetch-items g l = l.left

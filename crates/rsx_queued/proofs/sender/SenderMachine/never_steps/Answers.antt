@@ -1,0 +1,8 @@
+use Rattle.std.proofs.Common.{◌≡◌, false, sym, subst}
+use Rattle.rsx_sources.specs.Counts.{NeverSteps}
+use Rattle.rsx_queued.specs.Sender.{sender_picks, sender_rows}
+use Rattle.rsx_queued.proofs.sender.SenderMachine.never_steps.Goals as goal
+
+pub returns-in-Direct : goal.returns-in-Direct
+returns-in-Direct g c = λ yes.
+    rw c.in-Direct.is (λ asked sent. (λ i. (c.never_steps.ensures yes asked sent).0 i, (c.never_steps.ensures yes asked sent).1))
