@@ -166,7 +166,7 @@ impl<M: Machine> Inputs<M> {
     /// As [`Inputs::fetch`], over the edges beside the first, one after the other, where the first edge is input `input` of
     /// `receiver`.
     #[cycle(fetch)]
-    #[inline(never)]
+    #[inline(always)]
     pub(crate) fn fetch_beside<O: Ops<Item = M::Item>>(
         &mut self,
         alloc: Global,
@@ -182,10 +182,16 @@ impl<M: Machine> Inputs<M> {
     {
         match self {
             Inputs::End => None,
-            Inputs::More(_, _, _, beside) => match input.checked_add(1) {
-                Some(next) => beside.fetch_row(alloc, ops, receiver, next, asked, sent, left),
-                None => None,
-            },
+            Inputs::More(_, _, _, beside) => {
+                // Most nodes have one input.
+                if beside.is_end() {
+                    return None;
+                }
+                match input.checked_add(1) {
+                    Some(next) => beside.fetch_row(alloc, ops, receiver, next, asked, sent, left),
+                    None => None,
+                }
+            }
         }
     }
 

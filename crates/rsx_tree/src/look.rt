@@ -136,7 +136,7 @@ impl<M: Machine> Inputs<M> {
 
     /// Whether there are no inputs.
     #[inline]
-    fn is_end(&self) -> bool
+    pub(crate) fn is_end(&self) -> bool
         ensures { result ≡ true → self.now ≡ Inputs.End }
     {
         match self {
