@@ -191,6 +191,23 @@ impl<T: Drop> CurrentWindow<T> {
         matches!(self, CurrentWindow::Over)
     }
 
+    /// Starts a window with an empty chain, which takes so many items more behind the next one.
+    // Neither this nor `finish` is inlined, so that for most items no state is prepared.
+    #[inline(never)]
+    fn start_empty(&mut self, more: u64)
+        ensures { self.new ≡ CurrentWindow.Running ChainState.End more }
+    {
+        *self = CurrentWindow::Running(ChainState::End, more);
+    }
+
+    /// Ends the window that is started.
+    #[inline(never)]
+    fn finish(&mut self)
+        ensures { self.new ≡ CurrentWindow.Passing 0 }
+    {
+        *self = CurrentWindow::Passing(0);
+    }
+
     /// Goes on from there.
     fn set(&mut self, next: CurrentWindow<T>)
         ensures { self.new ≡ next }
@@ -211,7 +228,7 @@ impl<T: Drop> CurrentWindow<T> {
                 if size <= 1 {
                     return Passed::Item(item);
                 }
-                self.set(CurrentWindow::Running(ChainState::End, size - 2));
+                self.start_empty(size - 2);
                 Passed::Item(item)
             }
             CurrentWindow::Passing(left) => {
@@ -220,7 +237,7 @@ impl<T: Drop> CurrentWindow<T> {
             }
             CurrentWindow::Running(ChainState::End, more) => {
                 if *more == 0 {
-                    self.set(CurrentWindow::Passing(0));
+                    self.finish();
                     return Passed::Item(item);
                 }
                 *more -= 1;

@@ -9,7 +9,7 @@ returns-in-Passing g c = skipped_passes c.args.size c.args.stages.now c.args.sel
 pub returns-else-size-le1 : goal.returns-else-size-le1
 returns-else-size-le1 g c =
     let none : length c.args.stages.now ≡ 0 = search rules in
-    first_passes c.args.size c.args.stages.now c.args.self.now c.set.new.self c.args.item (search rules) none (search rules) c.set.ensures
+    first_passes c.args.size c.args.stages.now c.args.self.now c.start_empty.new.self c.args.item (search rules) none (search rules) c.start_empty.ensures
 
 pub returns-else-more-eq0 : goal.returns-else-more-eq0
 returns-else-more-eq0 g c =
