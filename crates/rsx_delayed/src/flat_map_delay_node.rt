@@ -391,7 +391,7 @@ impl<T: Drop> Machine for FlatMapDelayNode<T> {
         if self.flat.choices.push(number).is_err() {
             return None;
         }
-        match self.flat.lanes.take(number) {
+        match self.flat.lanes.take_first() {
             Some(Signal::Next(item)) => Some(item),
             Some(Signal::Complete) | Some(Signal::Error(_)) | None => unreachable!(),
         }

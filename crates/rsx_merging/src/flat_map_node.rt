@@ -424,7 +424,7 @@ impl<T: Drop> Machine for FlatMapNode<T> {
         if self.choices.push(number).is_err() {
             return None;
         }
-        match self.lanes.take(number) {
+        match self.lanes.take_first() {
             Some(Signal::Next(item)) => Some(item),
             Some(Signal::Complete) | Some(Signal::Error(_)) | None => unreachable!(),
         }

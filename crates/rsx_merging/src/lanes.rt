@@ -261,9 +261,20 @@ impl<T: Drop> Lanes<T> {
         }
     }
 
+    /// Takes the next signal of the first lane, if there is one. A lane whose ending was taken is gone.
+    pub fn take_first(&mut self) -> Option<Signal<T>>
+        ensures { (i : ℕ) → IsPlaceOf i self.old (Some 0) → TakesNext i self.old result self.new }
+    {
+        if self.list.is_empty() {
+            return None;
+        }
+        self.take_at(0)
+    }
+
     /// The number of the first lane, where an item is next there.
     pub fn first_with_item(&self) -> Option<u64>
-        ensures { IfSome result (λ i. next_front i self.now ≡ Some Item) }
+        ensures item { IfSome result (λ i. next_front i self.now ≡ Some Item) }
+        ensures first { IfSome result (λ i. IsPlaceOf i self.now (Some 0)) }
     {
         match self.list.first() {
             Some(lane) => match lane.front() {
