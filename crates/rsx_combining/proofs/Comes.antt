@@ -1,19 +1,21 @@
 -- A signal comes in at an input of a combineLatest, and the rest.
 use Rattle.std.proofs.lemmas.Bool.{and_parts}
 use Rattle.std.proofs.lemmas.List.{length-set}
-use Rattle.std.proofs.Common.{◌≡◌, ℕ, zero, suc, ◌&&◌, Bool, true, false, List, [], ◌∷◌, length, slice_index_or, slice_set, slice_get, Option, Some, None, inl, refl, ap, sym, ◌∙◌, subst, arith, ◌++◌}
+use Rattle.std.proofs.Common.{◌≡◌, ℕ, zero, suc, ◌<◌, Bool, true, false, List, [], ◌∷◌, length, slice_index_or, slice_set, slice_get, Option, Some, None, inl, refl, ap, sym, ◌∙◌, subst, arith, ◌++◌}
 use Rattle.rsx_sources.specs.Prelude.{Note, Picks, Done, Signal, Next, Complete, Error, Meaning, Stream, ended_by, signal_then, CountsIn, CountsStep, Incoming, TakesIn, Records, incoming_of, front_of, IsResidualOf, IsSteppedOut}
 use Rattle.rsx_values.specs.Prelude.{written, combine, unless_chosen}
 use Rattle.rsx_queued.specs.declared.input.QueuedInput.{QueuedInput}
 use Rattle.rsx_queued.specs.declared.output.Output.{Output}
 use Rattle.rsx_queued.specs.declared.output.Output.TheVariants.{Empty, Waiting}
-use Rattle.rsx_queued.specs.Prelude.{still, with_signal, next_signal, next_signal_at, inputs_left, picked, has_ending, is_empty, is_over, output_then, IsOut}
+use Rattle.rsx_queued.specs.Prelude.{still, with_signal, without, next_signal, next_signal_at, inputs_left, picked, has_ending, is_empty, is_over, output_then, IsOut}
 use Rattle.rsx_queued.proofs.Changed.{IsPut, is_put, put_left, put_counted, put_not_gone, put_done, put_ends}
 use Rattle.rsx_queued.proofs.Merged.{picks_compose}
 use Rattle.rsx_queued.proofs.Outputs.{empty_is, item_leaves}
 use Rattle.rsx_queued.proofs.Picks.{none_more, padded}
-use Rattle.rsx_combining.specs.Latest.{LatestState, latest_of, latest_comes_out, latest_waiting, latest_takes, latest_popped, latest_recording, row_given, may_pick, gives_row, latest_picks, latest_recorded, latest_ended, latest_done, IsLatestCounted, after_signal, after_pick}
+use Rattle.rsx_combining.specs.Latest.{LatestState, latest_of, latest_comes_out, latest_waiting, latest_takes, latest_popped, latest_recording, row_given, row_is_next, latest_with, made_out, may_pick, gives_row, latest_picks, latest_recorded, latest_ended, latest_done, IsLatestCounted, after_signal, after_pick}
 use Rattle.rsx_combining.proofs.Chooses.{pick_records, pick_counts}
+use Rattle.rsx_combining.proofs.Gives.{no_row_given}
+use Rattle.rsx_combining.proofs.Takes.{IsTaken, is_within, read_there, row_is_next_at, row_taken}
 
 -- ---- a signal comes in
 
@@ -56,7 +58,7 @@ signal_counts {T} start old i s a b same e was put =
 -- ---- an input is picked
 
 -- the same but for the choices
-abbrev IsBut : {T : Type 0} → LatestState T → LatestState T → Type 0
+abbrev pub IsBut : {T : Type 0} → LatestState T → LatestState T → Type 0
 IsBut a b = (a.inputs ≡ b.inputs) × (a.latest ≡ b.latest) × (a.output ≡ b.output)
 
 -- what the code did to pick input i of `old`: it recorded that, and took the next signal
@@ -129,12 +131,48 @@ pick_value m old noted new i asked sent made p = (both m old noted new i asked s
 pub pick_steps : {T : Type 0} (m : Meaning T) (old noted new : LatestState T) (i asked sent : ℕ) (made : Option T) → IsPicked m old noted new i asked sent made → CountsStep IsLatestCounted latest_ended latest_done old new
 pick_steps m old noted new i asked sent made p = (both m old noted new i asked sent made p).1
 
+-- what is picked is there
+pub pick_there : {T : Type 0} (n : LatestState T) (i asked sent : ℕ) → latest_picks n i asked sent ≡ true → i < length n.inputs
+pick_there n i asked sent e =
+    let s = some_next (next_signal_at (slice_get n.inputs i)) (gives_row n.latest i) asked sent (and_parts (is_empty n.output) (may_pick (next_signal_at (slice_get n.inputs i)) (gives_row n.latest i) asked sent) e).1 in
+    is_within n.inputs i s.0 s.1
+
+-- what the code did to pick an input whose next signal gives no row
+pub none_picked : {T : Type 0} (m : Meaning T) (start old noted new : LatestState T) (i asked sent : ℕ) → start ≡ old → length start.inputs ≡ length start.latest → latest_picks old i asked sent ≡ true → IsBut noted start → row_is_next (next_signal_at (slice_get old.inputs i)) (gives_row old.latest i) ≡ false → new ≡ after_pick noted i None →
+    IsPicked m old noted new i asked sent None
+none_picked {T} m start old noted new i asked sent same long enabled but none after =
+    let lt = pick_there old i asked sent enabled in
+    let a = read_there old.inputs i lt in
+    let lengths : length old.inputs ≡ length old.latest = ap (λ n. length n.inputs) (sym same) ∙ long ∙ ap (λ n. length n.latest) same in
+    record {
+      enabled = enabled;
+      but = (but.0 ∙ ap (λ n. n.inputs) same, but.1 ∙ ap (λ n. n.latest) same, but.2 ∙ ap (λ n. n.output) same);
+      a = a.0;
+      was = a.1;
+      row = no_row_given m.row_of old.latest i (next_signal a.0) (omega (arith, lt, lengths)) (row_is_next_at old.inputs i a.0 (gives_row old.latest i) false lt a.1 none);
+      after = after;
+    }
+
 -- only an item gives a row
 row_signal : {T : Type 0} (row : List T → T) (latest : List (Option T)) (i : ℕ) (o : Option (Signal T)) (y : T) → Some y ≡ row_given row latest i o → (x : T) × (o ≡ Some (Next x))
 row_signal row latest i None y e = cc
 row_signal row latest i (Some (Next x)) y e = (x, refl)
 row_signal row latest i (Some Complete) y e = cc
 row_signal row latest i (Some (Error c)) y e = cc
+
+-- what the code did to pick an input whose next item gives this row
+pub row_picked : {T : Type 0} (m : Meaning T) (start old noted : LatestState T) (i asked sent : ℕ) (y : T) (a b : QueuedInput T) (latest : List (Option T)) (out : Output T) → start ≡ old → latest_picks old i asked sent ≡ true → IsBut noted start → a ≡ slice_index_or start.inputs i a → Some y ≡ row_given m.row_of start.latest i (next_signal a) →
+    b ≡ without a (next_signal a) → latest ≡ latest_with start.latest i (next_signal a) → (made : Option T) → out ≡ made_out made start.output →
+    (a ≡ slice_index_or old.inputs i a) × (Some y ≡ row_given m.row_of old.latest i (next_signal a)) × ◌≡◌ {A = LatestState T} (record { inputs = slice_set noted.inputs i b; latest = latest; output = out; choices = noted.choices }) (after_pick noted i made)
+row_picked {T} m start old noted i asked sent y a b latest out same enabled but was row state is made put =
+    let x = row_signal m.row_of start.latest i (next_signal a) y row in
+    let lt = pick_there old i asked sent enabled in
+    let there : i < length noted.inputs = let l = ap length but.0 in let k = ap (λ n. length n.inputs) same in omega (arith, l, k, lt) in
+    let p : IsTaken noted noted i (next_signal a) a b = record { same = refl; there = there; was = was ∙ ap (λ qs. slice_index_or qs i a) (sym but.0); signal = refl; state = state } in (
+      was ∙ ap (λ n. slice_index_or n.inputs i a) same,
+      row ∙ ap (λ n. row_given m.row_of n.latest i (next_signal a)) same,
+      row_taken noted noted i made x.0 a b latest out p x.1 (is ∙ ap (λ l. latest_with l i (next_signal a)) (sym but.1)) (put ∙ ap (made_out made) (sym but.2)),
+    )
 
 -- the row that an input's item gave went out at once
 pub row_gone : {T : Type 0} (m : Meaning T) (old noted new : LatestState T) (i asked sent : ℕ) (y : T) (a : QueuedInput T) → latest_picks old i asked sent ≡ true → IsBut noted old → a ≡ slice_index_or old.inputs i a → Some y ≡ row_given m.row_of old.latest i (next_signal a) →
@@ -195,11 +233,3 @@ put_back_is {T} start now before new s same a b c put h =
     let P : LatestState T → Type 0 = λ n. latest_popped before s n in
     let k = subst P (sym same) h in
     state_is new before (a ∙ k.1) (b ∙ k.2) (put before.output k.0) (c ∙ k.3)
-
-pub set_same : {A : Type 0} (xs : List A) (i : ℕ) (x y : A) → x ≡ slice_index_or xs i x → y ≡ x → slice_set xs i y ≡ xs
-set_same xs i x y was is = ap (slice_set xs i) is ∙ same xs i x was
-  where
-    same : {A : Type 0} (xs : List A) (i : ℕ) (x : A) → x ≡ slice_index_or xs i x → slice_set xs i x ≡ xs
-    same [] i x was = refl
-    same (z ∷ xs) zero x was = ap (λ y. y ∷ xs) was
-    same (z ∷ xs) (suc i) x was = ap (λ l. z ∷ l) (same xs i x was)

@@ -6,7 +6,7 @@ use Rattle.rsx_queued.specs.declared.output.Output.{Output}
 use Rattle.rsx_queued.specs.declared.output.Output.TheVariants.{Waiting}
 use Rattle.rsx_queued.specs.Prelude.{next_signal, without, next_signal_at, are_gone}
 use Rattle.rsx_values.specs.Latest.{is_itemless}
-use Rattle.rsx_combining.specs.Latest.{LatestState, taken_at, made_out, completed, after_signal, after_pick}
+use Rattle.rsx_combining.specs.Latest.{LatestState, row_is_next, latest_with, taken_at, made_out, completed, after_signal, after_pick}
 
 -- the node after this signal, where these inputs are left
 abbrev pub after_with : {T : Type 0} → LatestState T → ℕ → Option T → List (QueuedInput T) → Option (Signal T) → LatestState T
@@ -50,11 +50,11 @@ taken_as start old i made r o a b p is =
     ∙ ap (λ n. after_pick n i made) p.same
 
 -- the same as the code puts it together, by the signal
-pub item_taken : {T : Type 0} (start old : LatestState T) (i : ℕ) (made : Option T) (r : Option (Signal T)) (f : Signal T) (x : T) (a b : QueuedInput T) (out : Output T) → IsTaken start old i r a b → r ≡ Some f → f ≡ Next x → out ≡ made_out made start.output →
-    ◌≡◌ {A = LatestState T} (record { inputs = slice_set start.inputs i b; latest = slice_set start.latest i (Some x); output = out; choices = start.choices }) (after_pick old i made)
-item_taken {T} start old i made r f x a b out p is next put =
-    let at : Output T → LatestState T = λ o. record { inputs = slice_set start.inputs i b; latest = slice_set start.latest i (Some x); output = o; choices = start.choices } in
-    ap at put ∙ taken_as start old i made r (Some (Next x)) a b p (is ∙ ap (λ s. Some s) next)
+pub item_taken : {T : Type 0} (start old : LatestState T) (i : ℕ) (r : Option (Signal T)) (f : Signal T) (x : T) (a b : QueuedInput T) (latest : List (Option T)) → IsTaken start old i r a b → r ≡ Some f → f ≡ Next x → latest ≡ slice_set start.latest i (Some x) →
+    ◌≡◌ {A = LatestState T} (record { inputs = slice_set start.inputs i b; latest = latest; output = start.output; choices = start.choices }) (after_pick old i None)
+item_taken {T} start old i r f x a b latest p is next put =
+    let at : List (Option T) → LatestState T = λ l. record { inputs = slice_set start.inputs i b; latest = l; output = start.output; choices = start.choices } in
+    ap at put ∙ taken_as start old i None r (Some (Next x)) a b p (is ∙ ap (λ s. Some s) next)
 
 pub completion_taken : {T : Type 0} (start old : LatestState T) (i : ℕ) (made : Option T) (r : Option (Signal T)) (f : Signal T) (a b : QueuedInput T) (t : Bool) (out : Output T) → IsTaken start old i r a b → r ≡ Some f → f ≡ Complete →
     t ≡ is_itemless (slice_get start.latest i) || are_gone (slice_set start.inputs i b) → out ≡ completed t start.output →
@@ -68,3 +68,24 @@ pub failure_taken : {T : Type 0} (start old : LatestState T) (i : ℕ) (made : O
 failure_taken {T} start old i made r f c a b out p is next put =
     let at : Output T → LatestState T = λ o. record { inputs = slice_set start.inputs i b; latest = start.latest; output = o; choices = start.choices } in
     ap at put ∙ taken_as start old i made r (Some (Error c)) a b p (is ∙ ap (λ s. Some s) next)
+
+pub is_within : {T : Type 0} (qs : List (QueuedInput T)) (i : ℕ) (s : Signal T) → next_signal_at (slice_get qs i) ≡ Some s → i < length qs
+is_within [] i s e = cc
+is_within (q ∷ qs) zero s e = omega arith
+is_within (q ∷ qs) (suc i) s e = let lt = is_within qs i s e in omega (arith, lt)
+
+pub read_there : {T : Type 0} (qs : List (QueuedInput T)) (i : ℕ) → i < length qs → (a : QueuedInput T) × (a ≡ slice_index_or qs i a)
+read_there [] i lt = absurd (omega arith)
+read_there (q ∷ qs) zero lt = (q, refl)
+read_there (q ∷ qs) (suc i) lt = read_there qs i (omega arith)
+
+-- an item that gives a row was taken, and its row is put out, or went out at once
+pub row_taken : {T : Type 0} (start old : LatestState T) (i : ℕ) (made : Option T) (x : T) (a b : QueuedInput T) (latest : List (Option T)) (out : Output T) → IsTaken start old i (next_signal a) a b → next_signal a ≡ Some (Next x) → latest ≡ latest_with start.latest i (next_signal a) → out ≡ made_out made start.output →
+    ◌≡◌ {A = LatestState T} (record { inputs = slice_set start.inputs i b; latest = latest; output = out; choices = start.choices }) (after_pick old i made)
+row_taken {T} start old i made x a b latest out p next is put =
+    let at : List (Option T) → Output T → LatestState T = λ l o. record { inputs = slice_set start.inputs i b; latest = l; output = o; choices = start.choices } in
+    ap (λ l. at l out) (is ∙ ap (latest_with start.latest i) next) ∙ ap (at (slice_set start.latest i (Some x))) put ∙ taken_as start old i made (next_signal a) (Some (Next x)) a b p next
+
+-- what the test says of the input that is read
+pub row_is_next_at : {T : Type 0} (qs : List (QueuedInput T)) (i : ℕ) (a : QueuedInput T) (row t : Bool) → i < length qs → a ≡ slice_index_or qs i a → row_is_next (next_signal_at (slice_get qs i)) row ≡ t → row_is_next (next_signal a) row ≡ t
+row_is_next_at qs i a row t lt was e = ap (λ s. row_is_next s row) (sym (next_is qs i a lt was)) ∙ e

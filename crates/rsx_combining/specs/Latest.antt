@@ -64,6 +64,20 @@ row_given row latest i (Some (Next x)) = option_map row (all_latest (slice_set l
 row_given row latest i (Some Complete) = None
 row_given row latest i (Some (Error c)) = None
 
+-- whether the next signal of an input is an item, where an item of that input gives a row
+abbrev pub row_is_next : {T : Type 0} → Option (Signal T) → Bool → Bool
+row_is_next None row = false
+row_is_next (Some (Next x)) row = row
+row_is_next (Some Complete) row = false
+row_is_next (Some (Error c)) row = false
+
+-- the latest items behind this signal of input i
+abbrev pub latest_with : {T : Type 0} → List (Option T) → ℕ → Option (Signal T) → List (Option T)
+latest_with latest i None = latest
+latest_with latest i (Some (Next x)) = slice_set latest i (Some x)
+latest_with latest i (Some Complete) = latest
+latest_with latest i (Some (Error c)) = latest
+
 abbrev pub latest_recording : {T : Type 0} → LatestState T → ℕ → Note
 latest_recording n i = Picks (i ∷ [])
 

@@ -1,6 +1,6 @@
 //! Copies of latest items.
 
-ghost use Rattle.std.specs.Prelude.{◌≡◌, ◌++◌, List, Option, OnOk};
+ghost use Rattle.std.specs.Prelude.{◌≡◌, ◌++◌, List, Option, Some, map, OnOk};
 
 use rsx_types::{NoMemory, Ops};
 use std::alloc::Global;
@@ -21,6 +21,18 @@ pub trait LatestCopies<T: Drop> {
         latest: &[Option<T>],
     ) -> Result<(), NoMemory>
         ensures { OnOk result (so_far self.new ≡ so_far self.old ++ latest.now) };
+
+    /// Puts copies of these items, one of each input, behind those so far.
+    ///
+    /// # Errors
+    /// [`NoMemory`] where a growth was refused, in `Ops::copy` too.
+    fn push_item_copies<O: Ops<Item = T>>(
+        &mut self,
+        alloc: Global,
+        ops: &O,
+        items: &[T],
+    ) -> Result<(), NoMemory>
+        ensures { OnOk result (so_far self.new ≡ so_far self.old ++ map Some items.now) };
 }
 
 impl<T: Drop> LatestCopies<T> for Vec<Option<T>> {
@@ -45,6 +57,22 @@ impl<T: Drop> LatestCopies<T> for Vec<Option<T>> {
                     self.push_copies(alloc, ops, others)
                 }
             },
+        }
+    }
+
+    fn push_item_copies<O: Ops<Item = T>>(
+        &mut self,
+        alloc: Global,
+        ops: &O,
+        items: &[T],
+    ) -> Result<(), NoMemory> {
+        match items.split_first() {
+            None => Ok(()),
+            Some((first, others)) => {
+                let copy = ops.copy(alloc, first)?;
+                self.push(Some(copy))?;
+                self.push_item_copies(alloc, ops, others)
+            }
         }
     }
 }

@@ -1,17 +1,16 @@
-//! The row of the latest items.
+//! The row of the latest items, and the choice that goes with it.
 
-ghost use Rattle.std.specs.Prelude.{◌≡◌, ◌≤◌, ◌<◌, ◌+◌, ◌++◌, [], ℕ, List, false, length, IsOk, IfOk, option_map};
-ghost use Rattle.rsx_queued.specs.Input.{next_signal};
+ghost use Rattle.std.specs.Prelude.{◌≡◌, ◌≤◌, ◌+◌, ◌++◌, ◌∷◌, [], Some, ℕ, List, true, length, slice_set, option_map, IfSome, IfNone, IfOk, IfErr, OnOk, OnErr};
 ghost use Rattle.rsx_values.specs.Latest.{all_latest};
-ghost use Rattle.rsx_combining.specs.Latest.{row_given};
+ghost use Rattle.rsx_values.specs.Record.{written};
+ghost use Rattle.rsx_combining.specs.Latest.{all_there, gives_row};
 
-use rsx_queued::QueuedInput;
-use rsx_sources::Front;
 use rsx_types::{NoMemory, Ops};
+use rsx_values::Record;
 use std::alloc::Global;
 use std::mem;
 
-/// The items of one row of latest items, gathered input by input.
+/// The items of one row of latest items.
 pub trait LatestRow<T: Drop> {
     /// The items so far.
     ghost so_far: { Self → List T };
@@ -19,43 +18,65 @@ pub trait LatestRow<T: Drop> {
     /// How many items fit in all without a growth.
     ghost capacity: { Self → ℕ };
 
-    /// The row of the items so far and of these latest items, once every input has had one. The items stay where they are.
-    ///
-    /// # Errors
-    /// [`NoMemory`] where `Ops::row` answers it.
-    fn row_of_all<O: Ops<Item = T>>(
+    /// The row of these items, where it could be made and the choice of this input be added. Else the choices are as they
+    /// were.
+    fn chosen_row<O: Ops<Item = T>>(
+        &self,
+        alloc: Global,
+        ops: &O,
+        choices: &mut Record,
+        input: u64,
+    ) -> Option<T>
+        ensures row { IfSome result (λ y. y ≡ (O.meaning ops.now).row_of (so_far self.now)) }
+        ensures choice { IfSome result (λ y. written choices.new ≡ written choices.old ++ input ∷ []) }
+        ensures none { IfNone result (choices.new ≡ choices.old) };
+
+    /// The same for the items so far and all of these latest items behind them, which are moved there. Where there is no row
+    /// nothing has changed.
+    fn first_row<O: Ops<Item = T>>(
         &mut self,
         alloc: Global,
         ops: &O,
+        choices: &mut Record,
+        input: u64,
         latest: &mut [Option<T>],
-    ) -> Result<Option<T>, NoMemory>
-        requires { length (so_far self.old) + length latest.old ≤ capacity self.old }
-        ensures row { IfOk result (λ o.
-            o ≡ option_map (λ xs. (O.meaning ops.now).row_of (so_far self.old ++ xs)) (all_latest latest.old)) }
-        ensures latest { latest.new ≡ latest.old }
-        ensures kept { so_far self.new ≡ so_far self.old }
+    ) -> Option<T>
+        requires fits { length (so_far self.old) + length latest.old ≤ capacity self.old }
+        requires there { all_there latest.old ≡ true }
+        ensures row { IfSome result (λ y. y ≡ (O.meaning ops.now).row_of (so_far self.new)) }
+        ensures moved { IfSome result (λ y.
+            Some (so_far self.new) ≡ option_map (λ xs. so_far self.old ++ xs) (all_latest latest.old)) }
+        ensures choice { IfSome result (λ y. written choices.new ≡ written choices.old ++ input ∷ []) }
+        ensures kept { IfNone result (so_far self.new ≡ so_far self.old) }
+        ensures latest { IfNone result (latest.new ≡ latest.old) }
+        ensures none { IfNone result (choices.new ≡ choices.old) }
         ensures room { capacity self.old ≤ capacity self.new };
 
-    /// The row that the next signal of the input with this number gives, if it gives one. The signal and the latest items
-    /// stay where they are.
+    /// The first row: that of these latest items with the item of this input among them, which is the last that was missing.
+    /// They are moved here, and the choice of the input is added.
     ///
     /// # Errors
-    /// [`NoMemory`] where `Ops::row` answers it.
-    fn row_of_next<O: Ops<Item = T>>(
+    /// The item, where `Ops::row` or a growth for the choice was refused. Nothing has changed.
+    fn row_of_last<O: Ops<Item = T>>(
         &mut self,
         alloc: Global,
         ops: &O,
-        latest: &mut [Option<T>],
+        choices: &mut Record,
+        latest: &mut Vec<Option<T>>,
         at: usize,
-        input: &mut QueuedInput<T>,
-    ) -> Result<Option<T>, NoMemory>
+        item: T,
+    ) -> Result<T, T>
         requires empty { so_far self.old ≡ [] }
-        requires fits { length latest.old ≤ capacity self.old }
-        requires there { at < length latest.old }
-        ensures row { IfOk result (λ o. o ≡ row_given (O.meaning ops.now).row_of latest.old at (next_signal input.old)) }
-        ensures latest { latest.new ≡ latest.old }
-        ensures input { input.new ≡ input.old }
-        ensures kept { so_far self.new ≡ so_far self.old }
+        requires fits { length latest.old.items ≤ capacity self.old }
+        requires gives { gives_row latest.old.items at ≡ true }
+        ensures row { IfOk result (λ y. y ≡ (O.meaning ops.now).row_of (so_far self.new)) }
+        ensures moved { OnOk result (Some (so_far self.new) ≡ all_latest (slice_set latest.old.items at (Some item))) }
+        ensures cleared { OnOk result (latest.new.items ≡ []) }
+        ensures choice { OnOk result (written choices.new ≡ written choices.old ++ at ∷ []) }
+        ensures item { IfErr result (λ x. x ≡ item) }
+        ensures kept { OnErr result (so_far self.new ≡ so_far self.old) }
+        ensures latest { OnErr result (latest.new.items ≡ latest.old.items) }
+        ensures choices { OnErr result (choices.new ≡ choices.old) }
         ensures room { capacity self.old ≤ capacity self.new };
 }
 
@@ -66,53 +87,71 @@ impl<T: Drop> LatestRow<T> for Vec<T> {
 
     ghost capacity = { vec_capacity };
 
-    #[tactic(auto, using(crate::proofs::Gives::row_more))]
-    fn row_of_all<O: Ops<Item = T>>(
+    #[inline]
+    fn chosen_row<O: Ops<Item = T>>(
+        &self,
+        alloc: Global,
+        ops: &O,
+        choices: &mut Record,
+        input: u64,
+    ) -> Option<T> {
+        match ops.row(alloc, self.as_slice()) {
+            Ok(row) => match choices.push(input) {
+                Ok(()) => Some(row),
+                Err(_) => None,
+            },
+            Err(_) => None,
+        }
+    }
+
+    #[tactic(auto, using(crate::proofs::Gives::moved_more))]
+    fn first_row<O: Ops<Item = T>>(
         &mut self,
         alloc: Global,
         ops: &O,
+        choices: &mut Record,
+        input: u64,
         latest: &mut [Option<T>],
-    ) -> Result<Option<T>, NoMemory> {
+    ) -> Option<T> {
         match latest.split_first_mut() {
-            None => {
-                let row = ops.row(alloc, self.as_slice())?;
-                Ok(Some(row))
-            }
+            None => self.chosen_row(alloc, ops, choices, input),
             Some((first, others)) => match first.take() {
-                None => Ok(None),
+                None => unreachable!(),
                 Some(item) => {
                     self.push_reserved(item);
-                    let row = self.row_of_all(alloc, ops, others);
-                    *first = self.pop();
-                    row
+                    match self.first_row(alloc, ops, choices, input, others) {
+                        Some(row) => Some(row),
+                        None => {
+                            *first = self.pop();
+                            None
+                        }
+                    }
                 }
             },
         }
     }
-
-    #[tactic(auto, using(crate::proofs::Gives::given_item))]
-    fn row_of_next<O: Ops<Item = T>>(
+    // Not inlined, so that what makes the later rows stays small.
+    #[inline(never)]
+    #[tactic(auto, using(crate::proofs::Gives::there_with))]
+    fn row_of_last<O: Ops<Item = T>>(
         &mut self,
         alloc: Global,
         ops: &O,
-        latest: &mut [Option<T>],
+        choices: &mut Record,
+        latest: &mut Vec<Option<T>>,
         at: usize,
-        input: &mut QueuedInput<T>,
-    ) -> Result<Option<T>, NoMemory> {
-        match input.front() {
-            Some(Front::Item) => match input.queue.lift() {
+        item: T,
+    ) -> Result<T, T> {
+        let before = mem::replace(&mut latest[at], Some(item));
+        match self.first_row(alloc, ops, choices, at as u64, latest.as_mut_slice()) {
+            Some(row) => {
+                latest.clear();
+                Ok(row)
+            }
+            None => match mem::replace(&mut latest[at], before) {
+                Some(item) => Err(item),
                 None => unreachable!(),
-                Some(item) => {
-                    let before = mem::replace(&mut latest[at], Some(item));
-                    let row = self.row_of_all(alloc, ops, latest);
-                    match mem::replace(&mut latest[at], before) {
-                        None => unreachable!(),
-                        Some(item) => input.queue.put_front(item),
-                    }
-                    row
-                }
             },
-            _ => Ok(None),
         }
     }
 }

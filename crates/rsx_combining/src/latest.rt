@@ -2,11 +2,9 @@
 
 ghost use Rattle.std.specs.Prelude.{◌≡◌, option_map};
 ghost use Rattle.rsx_sources.specs.Machine.{front_of};
-ghost use Rattle.rsx_combining.specs.Latest.{all_there, gives_row};
 ghost use Rattle.rsx_queued.specs.Output.{first_output};
 
-use crate::copies::LatestCopies;
-use crate::given::LatestRow;
+use crate::latest_items::{ItemRows, LatestItems};
 use rsx_prefetch::LARGEST;
 use rsx_queued::{
     InFront, Output, QueuedInput, ToPick, are_gone, credits_at, first_output, front_at, front_of,
@@ -25,58 +23,31 @@ use std::marker::Model;
 #[derive(Drop)]
 pub struct CombineLatestNode<T> {
     inputs: Vec<QueuedInput<T>>,
-    latest: Vec<Option<T>>,
+    latest: LatestItems<T>,
     output: Output<T>,
     choices: Record,
-    row: Vec<T>,
 }
 
 impl<T> Model for CombineLatestNode<T> {
-    ghost use Rattle.std.specs.Prelude.{◌≡◌, ◌≤◌, [], length, vec_capacity};
+    ghost use Rattle.std.specs.Prelude.{◌≡◌, length};
     ghost use Rattle.rsx_combining.specs.Latest.{LatestState};
 
     ghost Value = { LatestState T };
 
-    ghost view = { λ n. record { inputs = n.inputs.items; latest = n.latest.items; output = n.output; choices = n.choices } };
+    ghost view = { λ n. record { inputs = n.inputs.items; latest = n.latest; output = n.output; choices = n.choices } };
 
-    ghost invariant = { λ n.
-        (n.row.items ≡ []) × (length n.latest.items ≤ vec_capacity n.row) × (length n.inputs.items ≡ length n.latest.items) };
-}
-
-/// Whether every input has had an item.
-fn all_there<T: Drop>(latest: &[Option<T>]) -> bool
-    ensures { result ≡ all_there latest.now }
-{
-    match latest.split_first() {
-        None => true,
-        Some((first, others)) => first.is_some() && all_there(others),
-    }
-}
-
-/// Whether every input but this one has had an item.
-fn gives_row<T: Drop>(latest: &[Option<T>], input: u64) -> bool
-    ensures { result ≡ gives_row latest.now input }
-{
-    match latest.split_first() {
-        None => false,
-        Some((first, others)) => {
-            if input == 0 {
-                return all_there(others);
-            }
-            first.is_some() && gives_row(others, input - 1)
-        }
-    }
+    ghost invariant = { λ n. length n.inputs.items ≡ length n.latest };
 }
 
 impl<T: Drop> CombineLatestNode<T> {
-    ghost use Rattle.std.specs.Prelude.{◌≡◌, ◌≤◌, ◌<◌, ◌||◌, true, [], None, length, slice_get, IfOk};
+    ghost use Rattle.std.specs.Prelude.{◌≡◌, ◌≤◌, ◌<◌, ◌||◌, true, false, [], None, length, slice_get, IfOk};
     ghost use Rattle.rsx_values.specs.Latest.{is_itemless};
     ghost use Rattle.std.proofs.Math.ListN.{replicate};
     ghost use Rattle.rsx_prefetch.specs.declared.TheConstants.{LARGEST};
     ghost use Rattle.rsx_queued.specs.Input.{fresh_input};
-    ghost use Rattle.rsx_queued.specs.Inputs.{are_gone};
+    ghost use Rattle.rsx_queued.specs.Inputs.{are_gone, next_signal_at};
     ghost use Rattle.rsx_queued.specs.Output.{is_empty};
-    ghost use Rattle.rsx_combining.specs.Latest.{GivesLatest, IsLatestCounted, after_pick, latest_queued};
+    ghost use Rattle.rsx_combining.specs.Latest.{GivesLatest, IsLatestCounted, after_pick, gives_row, latest_queued, row_is_next};
 
     /// The combineLatest of so many inputs, each with a queue for so many items, 1 to [`LARGEST`]. That of no inputs completes
     /// at once.
@@ -99,18 +70,15 @@ impl<T: Drop> CombineLatestNode<T> {
         ensures counted { IfOk result (λ n. 1 ≤ inputs → IsLatestCounted n (replicate inputs 0) 0) }
     {
         let mut queues = Vec::new(alloc);
-        let mut latest = Vec::new(alloc);
         for _ in 0..inputs {
             queues.push(QueuedInput::new(alloc, capacity)?)?;
-            latest.push(None)?;
         }
-        let row = Vec::with_capacity(alloc, latest.len())?;
+        let latest = LatestItems::new(alloc, inputs)?;
         Ok(CombineLatestNode {
             inputs: queues,
             latest,
             output: first_output(inputs),
             choices: Record::new(alloc),
-            row,
         })
     }
 
@@ -132,25 +100,30 @@ impl<T: Drop> CombineLatestNode<T> {
     fn completes(&self, at: usize) -> bool
         ensures { result ≡ is_itemless (slice_get self.now.latest at) || are_gone self.now.inputs }
     {
-        match self.latest.get(at) {
-            Some(Some(_)) => are_gone(self.inputs.as_slice()),
-            Some(None) | None => true,
+        !self.latest.has_item(at) || are_gone(self.inputs.as_slice())
+    }
+
+    /// Whether an item is next at this input that gives a row.
+    #[inline]
+    fn row_is_next(&self, input: u64) -> bool
+        ensures { result ≡
+            row_is_next (next_signal_at (slice_get self.now.inputs input)) (gives_row self.now.latest input) }
+    {
+        match front_at(self.inputs.as_slice(), input) {
+            Some(Front::Item) => self.latest.gives_row(input),
+            Some(Front::Completion) | Some(Front::Failure(_)) | None => false,
         }
     }
 
-    /// Takes the next signal of this input, which made this row, and puts out what it gives.
-    fn take_picked(&mut self, at: usize, made: Option<T>)
+    /// Takes the next signal of this input, which gives no row, and puts out what it gives.
+    fn take_picked(&mut self, at: usize)
         requires free { is_empty self.old.output ≡ true }
         requires there { at < length self.old.inputs }
-        ensures { self.new ≡ after_pick self.old at made }
+        requires no_row { row_is_next (next_signal_at (slice_get self.old.inputs at)) (gives_row self.old.latest at) ≡ false }
+        ensures { self.new ≡ after_pick self.old at None }
     {
         match self.inputs[at].take() {
-            Some(Signal::Next(item)) => {
-                self.latest[at] = Some(item);
-                if let Some(row) = made {
-                    self.output.put(Signal::Next(row));
-                }
-            }
+            Some(Signal::Next(item)) => self.latest.put(at, item),
             Some(Signal::Complete) => {
                 if self.completes(at) {
                     self.output.put(Signal::Complete);
@@ -296,7 +269,7 @@ impl<T: Drop> Machine for CombineLatestNode<T> {
             return false;
         }
         match front_at(self.inputs.as_slice(), input) {
-            Some(Front::Item) => sent < asked || !gives_row(self.latest.as_slice(), input),
+            Some(Front::Item) => sent < asked || !self.latest.gives_row(input),
             Some(Front::Completion) | Some(Front::Failure(_)) => true,
             None => false,
         }
@@ -332,20 +305,22 @@ impl<T: Drop> Machine for CombineLatestNode<T> {
             return Err(NotMade::NotEnabled);
         }
         let at = input as usize;
-        let made = match self.row.row_of_next(
-            alloc,
-            ops,
-            self.latest.as_mut_slice(),
-            at,
-            &mut self.inputs[at],
-        ) {
-            Ok(made) => made,
-            Err(NoMemory) => return Err(NotMade::NoMemory),
-        };
+        if self.row_is_next(input) {
+            return match self
+                .latest
+                .row_of_next(alloc, ops, &mut self.choices, at, &mut self.inputs[at])
+            {
+                Ok(row) => {
+                    self.output.put(Signal::Next(row));
+                    Ok(())
+                }
+                Err(NoMemory) => Err(NotMade::NoMemory),
+            };
+        }
         if let Err(_) = self.choices.push(input) {
             return Err(NotMade::NoMemory);
         }
-        self.take_picked(at, made);
+        self.take_picked(at);
         Ok(())
     }
 
@@ -375,25 +350,17 @@ impl<T: Drop> Machine for CombineLatestNode<T> {
             Some(input) => input,
             None => return None,
         };
-        if !gives_row(self.latest.as_slice(), input) {
+        if !self.row_is_next(input) {
             return None;
         }
         let at = input as usize;
-        let made = match self.row.row_of_next(
-            alloc,
-            ops,
-            self.latest.as_mut_slice(),
-            at,
-            &mut self.inputs[at],
-        ) {
-            Ok(Some(made)) => made,
-            Ok(None) | Err(_) => return None,
-        };
-        if self.choices.push(input).is_err() {
-            return None;
+        if let Ok(row) = self
+            .latest
+            .row_of_next(alloc, ops, &mut self.choices, at, &mut self.inputs[at])
+        {
+            return Some(row);
         }
-        self.take_picked(at, None);
-        Some(made)
+        None
     }
 
     fn want(&self, input: u64, asked: u64, sent: u64) -> u64 {
@@ -417,8 +384,7 @@ impl<T: Drop> Machine for CombineLatestNode<T> {
     {
         let mut inputs = Vec::new(alloc);
         inputs.push_inputs(alloc, ops, 0, self.inputs.as_slice(), incoming)?;
-        let mut latest = Vec::new(alloc);
-        latest.push_copies(alloc, ops, self.latest.as_slice())?;
+        let mut latest = self.latest.copies(alloc, ops)?;
         match latest.combine(alloc, ops, inputs, &[])? {
             Some(rest) => self.output.in_front(alloc, ops, rest),
             None => unreachable!(),

@@ -18,6 +18,7 @@
 mod copies;
 mod given;
 pub mod latest;
+mod latest_items;
 mod row;
 mod values;
 pub mod zip;

@@ -1,4 +1,4 @@
-use Rattle.std.proofs.Common.{◌≡◌, true, false, refl, sym, ap, ◌∙◌, rules}
+use Rattle.std.proofs.Common.{◌≡◌, true, false, sym, ◌∙◌, rules}
 use Rattle.rsx_types.specs.declared.signal.Signal.TheVariants.{Next}
 use Rattle.rsx_sources.specs.declared.machine.Front.TheVariants.{Item}
 use Rattle.rsx_combining.specs.Latest.{LatestState, latest_takes, latest_ended}
@@ -7,7 +7,7 @@ use Rattle.rsx_combining.proofs.latest.CombineLatestNodeMachine.pass.Goals as go
 
 pub returns-clause-passed : goal.returns-clause-passed
 returns-clause-passed g c =
-    let start : LatestState g.row.T.Denot = record { inputs = c.self.inside.inputs.items; latest = c.self.inside.latest.items; output = c.self.inside.output; choices = c.self.inside.choices } in
+    let start : LatestState g.row.T.Denot = record { inputs = c.self.inside.inputs.items; latest = c.self.inside.latest; output = c.self.inside.output; choices = c.self.inside.choices } in
     let takes : latest_takes c.args.self.now c.args.input Item ≡ true = sym c.can_take.ensures ∙ c.if-not-can_take.false in
     let going : latest_ended c.args.self.now ≡ false = sym c.has_ended.ensures ∙ c.if-has_ended.false in
     record {

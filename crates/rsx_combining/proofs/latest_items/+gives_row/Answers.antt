@@ -1,6 +1,6 @@
 use Rattle.std.proofs.Common.{rules, arith}
 use Rattle.std.proofs.lemmas.Grind.{common_steps}
-use Rattle.rsx_combining.proofs.latest.+gives_row.Goals as goal
+use Rattle.rsx_combining.proofs.latest_items.+gives_row.Goals as goal
 
 pub returns-then-input-eq0 : goal.returns-then-input-eq0
 returns-then-input-eq0 g t c = search rules

@@ -1,6 +1,6 @@
 use Rattle.std.proofs.Common.{rules, arith}
 use Rattle.std.proofs.lemmas.Grind.{common_steps}
-use Rattle.rsx_combining.proofs.latest.+all_there.Goals as goal
+use Rattle.rsx_combining.proofs.latest_items.+all_there.Goals as goal
 
 pub all_there-requires : goal.all_there-requires
 all_there-requires g t c κs within = search rules
