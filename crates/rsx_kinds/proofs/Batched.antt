@@ -1,9 +1,10 @@
 -- A node of any kind makes the batches that its kind makes.
-use Rattle.std.proofs.Common.{false, List, ℕ}
+use Rattle.std.proofs.Common.{◌≡◌, true, false, None, List, [], ◌∷◌, length, ℕ, Some, inr, refl, ap, sym, ◌∙◌, subst}
 use Rattle.rsx_rooted.proofs.OneByOne.{passed_in, popped_in}
 use Rattle.rsx_rooted.specs.Items.{ArePassed, ArePopped, IsIn}
 use Rattle.rsx_rooted.specs.Machines.{plain_machine, range_machine}
 use Rattle.rsx_rooted.specs.Went.{plain_went, range_went}
+use Rattle.rsx_rooted.specs.declared.batch.After.TheVariants.{Counted}
 use Rattle.rsx_rooted.specs.declared.batch.Noted.{Noted}
 use Rattle.rsx_plain.specs.declared.node.PlainNode.{PlainNode}
 use Rattle.rsx_sources.specs.Prelude.{Meaning, Nothing}
@@ -12,13 +13,21 @@ use Rattle.rsx_sources.specs.declared.machine.Passed.TheVariants.{Kept}
 use Rattle.rsx_sources.specs.declared.range.RangeNode.{RangeNode}
 use Rattle.rsx_tree.specs.Fetched.{IsOut}
 use Rattle.rsx_kinds.specs.Any.{kind_machine}
-use Rattle.rsx_kinds.specs.Went.{any_went, source_went}
+use Rattle.rsx_kinds.specs.Went.{any_went, several_went, source_went}
 use Rattle.rsx_kinds.specs.Source.{source_comes_out, source_waiting, source_shown, source_popped, source_counted, source_reads, source_rooms, source_pop_allocates}
 use Rattle.rsx_kinds.specs.declared.any_node.AnyNode.{AnyNode}
 use Rattle.rsx_kinds.specs.declared.any_node.AnyNode.TheVariants.{Source, Plain, Several, PublishOn, PublishOnEager, Window, FlatMap, FlatMapDelay, GroupBy}
 use Rattle.rsx_kinds.specs.declared.source_node.SourceNode.{SourceNode}
 use Rattle.rsx_kinds.specs.declared.source_node.SourceNode.TheVariants.{Items, Range, Hub}
-use Rattle.rsx_kinds.proofs.Dispatch.{passed_plain}
+use Rattle.rsx_kinds.specs.Several.{several_comes_out, several_waiting, several_shown, several_takes, several_picks, several_rows, several_rowed, several_recording, several_recorded, several_ended, several_done, several_counted, several_wanted, several_popped, several_step_allocates}
+use Rattle.rsx_kinds.specs.declared.several_node.SeveralNode.{SeveralNode}
+use Rattle.rsx_kinds.specs.declared.several_node.SeveralNode.TheVariants.{Concat}
+use Rattle.rsx_merging.specs.Concat.{after_all_passed, after_passed, concat_takes}
+use Rattle.rsx_merging.specs.declared.concat_node.ConcatNode.{ConcatNode}
+use Rattle.rsx_merging.proofs.Through.{goes_through_concat}
+use Rattle.rsx_sources.specs.declared.machine.Front.TheVariants.{Item}
+use Rattle.rsx_kinds.proofs.Dispatch.{passed_plain, passed_several}
+use Rattle.rsx_kinds.proofs.SeveralDispatch.{item_out_concat, passed_concat}
 
 -- the meaning of sources
 abbrev pub source_machine : {T : Type 0} → Machine (SourceNode T) T
@@ -83,3 +92,64 @@ passed_plain_all m i n noted xs ys h (Window k) w = absurd w
 passed_plain_all m i n noted xs ys h (FlatMap k) w = absurd w
 passed_plain_all m i n noted xs ys h (FlatMapDelay k) w = absurd w
 passed_plain_all m i n noted xs ys h (GroupBy k) w = absurd w
+
+-- ---- a node of several inputs
+
+-- the meaning of nodes of several inputs
+abbrev pub several_machine : {T : Type 0} → Machine (SeveralNode T) T
+several_machine = record {
+  comes_out = several_comes_out;
+  waiting = several_waiting;
+  shown = several_shown;
+  takes = several_takes;
+  picks = several_picks;
+  rows = several_rows;
+  rowed = several_rowed;
+  recording = several_recording;
+  recorded = several_recorded;
+  ended = several_ended;
+  done = several_done;
+  counted = several_counted;
+  wanted = several_wanted;
+  popped = several_popped;
+  reads = λ n. None;
+  rooms = λ n. false;
+  crosses = λ n. false;
+  pop_allocates = λ a n. false;
+  signal_allocates = λ a n. false;
+  step_allocates = several_step_allocates;
+}
+
+-- items go through a concat as they are
+through_concat : {T : Type 0} (m : Meaning T) (i : ℕ) (xs : List T) (n : ConcatNode T) → concat_takes n i Item ≡ true → ArePassed (IsIn several_machine m i) (IsOut several_machine m) (Concat n) xs xs (Concat (after_all_passed n (length xs)))
+through_concat m i [] n takes = (refl, refl)
+through_concat m i (x ∷ xs) n takes =
+    let h = goes_through_concat m n i x takes in (
+      Concat h.0,
+      (passed_concat m n h.0 i x Kept h.1, (refl, (refl, λ a. (refl, refl, refl)))),
+      inr (x, xs, Concat (after_passed n), refl, (item_out_concat m h.0 (after_passed n) (Some x) h.2, (refl, (refl, λ a. (refl, refl, refl)))), through_concat m i xs (after_passed n) takes),
+    )
+
+pub passed_concat_all : {T : Type 0} (m : Meaning T) (i : ℕ) (old new : SeveralNode T) (n : ConcatNode T) (took : ℕ) (xs : List T) → old ≡ Concat n → concat_takes n i Item ≡ true → took ≡ length xs → several_went old (record { took = took; after = Counted }) new →
+    ArePassed (IsIn several_machine m i) (IsOut several_machine m) old xs xs new
+passed_concat_all {T} m i old new n took xs is takes all w =
+    let P : SeveralNode T → Type 0 = λ s. several_went s (record { took = took; after = Counted }) new → ArePassed (IsIn several_machine m i) (IsOut several_machine m) s xs xs new in
+    let Q : SeveralNode T → Type 0 = λ s. ArePassed (IsIn several_machine m i) (IsOut several_machine m) (Concat n) xs xs s in
+    subst P (sym is) (λ gone. subst Q (sym (gone ∙ ap (λ k. Concat (after_all_passed n k)) all)) (through_concat m i xs n takes)) w
+
+in_several : {T : Type 0} (m : Meaning T) (i : ℕ) (s : SeveralNode T) (x : T) (t : SeveralNode T) → IsIn several_machine m i s x t → IsIn kind_machine m i (Several s) x (Several t)
+in_several m i s x t h = (passed_several m s t i x Kept h.0, h.1)
+
+out_several : {T : Type 0} (m : Meaning T) (s : SeveralNode T) (x : T) (t : SeveralNode T) → IsOut several_machine m s x t → IsOut kind_machine m (Several s) x (Several t)
+out_several m s x t h = (record { waited = h.0.waited; popped_out = h.0.popped_out; value = h.0.value; notes = h.0.notes; counts = h.0.counts }, h.1)
+
+pub passed_several_all : {T : Type 0} (m : Meaning T) (i : ℕ) (n : SeveralNode T) (noted : Noted T) (xs ys : List T) → ((new : SeveralNode T) → several_went n noted new → ArePassed (IsIn several_machine m i) (IsOut several_machine m) n xs ys new) → (new : AnyNode T) → any_went (Several n) noted new → ArePassed (IsIn kind_machine m i) (IsOut kind_machine m) (Several n) xs ys new
+passed_several_all m i n noted xs ys h (Several k) w = passed_in Several (IsIn several_machine m i) (IsOut several_machine m) (IsIn kind_machine m i) (IsOut kind_machine m) (in_several m i) (out_several m) xs ys n k (h k w)
+passed_several_all m i n noted xs ys h (Source k) w = absurd w
+passed_several_all m i n noted xs ys h (Plain k) w = absurd w
+passed_several_all m i n noted xs ys h (PublishOn k) w = absurd w
+passed_several_all m i n noted xs ys h (PublishOnEager k) w = absurd w
+passed_several_all m i n noted xs ys h (Window k) w = absurd w
+passed_several_all m i n noted xs ys h (FlatMap k) w = absurd w
+passed_several_all m i n noted xs ys h (FlatMapDelay k) w = absurd w
+passed_several_all m i n noted xs ys h (GroupBy k) w = absurd w

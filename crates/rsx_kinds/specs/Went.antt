@@ -1,9 +1,15 @@
 -- What nodes of any kind are after a batch.
-use Rattle.std.specs.Prelude.{◌≡◌}
+use Rattle.std.specs.Prelude.{◌≡◌, ℕ}
 use Rattle.rsx_rooted.specs.Went.{plain_went, range_went, sender_went}
+use Rattle.rsx_rooted.specs.declared.batch.After.{After}
+use Rattle.rsx_rooted.specs.declared.batch.After.TheVariants.{Range as RangeAfter, Plain as PlainAfter, Counted}
 use Rattle.rsx_rooted.specs.declared.batch.Noted.{Noted}
+use Rattle.rsx_merging.specs.Concat.{after_all_passed}
+use Rattle.rsx_merging.specs.declared.concat_node.ConcatNode.{ConcatNode}
 use Rattle.rsx_kinds.specs.declared.any_node.AnyNode.{AnyNode}
-use Rattle.rsx_kinds.specs.declared.any_node.AnyNode.TheVariants.{Source, Plain}
+use Rattle.rsx_kinds.specs.declared.any_node.AnyNode.TheVariants.{Source, Plain, Several}
+use Rattle.rsx_kinds.specs.declared.several_node.SeveralNode.{SeveralNode}
+use Rattle.rsx_kinds.specs.declared.several_node.SeveralNode.TheVariants.{Concat}
 use Rattle.rsx_kinds.specs.declared.source_node.SourceNode.{SourceNode}
 use Rattle.rsx_kinds.specs.declared.source_node.SourceNode.TheVariants.{Range}
 
@@ -13,10 +19,23 @@ source_went (Range n) noted (Range k) = range_went n noted.after k
 source_went (Range n) noted new = ⊥
 source_went old noted new = new ≡ old
 
--- a node of any kind: so did a plain operator
+-- a concat counted the items that it took, so many
+abbrev pub concat_after : {T : Type 0} → ConcatNode T → ℕ → After T → ConcatNode T
+concat_after n took (RangeAfter k) = n
+concat_after n took (PlainAfter k) = n
+concat_after n took Counted = after_all_passed n took
+
+-- a node of several inputs: a concat did
+abbrev pub several_went : {T : Type 0} → SeveralNode T → Noted T → SeveralNode T → Type 0
+several_went (Concat n) noted new = new ≡ Concat (concat_after n noted.took noted.after)
+several_went old noted new = new ≡ old
+
+-- a node of any kind: so did a plain operator, or a node of several inputs
 abbrev pub any_went : {T : Type 0} → AnyNode T → Noted T → AnyNode T → Type 0
 any_went (Source n) noted (Source k) = source_went n noted k
 any_went (Plain n) noted (Plain k) = plain_went n noted.after k
+any_went (Several n) noted (Several k) = several_went n noted k
 any_went (Source n) noted new = ⊥
 any_went (Plain n) noted new = ⊥
+any_went (Several n) noted new = ⊥
 any_went old noted new = new ≡ old

@@ -1,10 +1,11 @@
-//! Batches through nodes of any kind. Ranges make them, and plain operators pass them on.
+//! Batches through nodes of any kind. Ranges make them, and plain operators and a concat pass them on.
 
 ghost use Rattle.std.specs.Prelude.{◌≡◌};
-ghost use Rattle.rsx_kinds.specs.Went.{any_went, source_went};
+ghost use Rattle.rsx_kinds.specs.Went.{any_went, several_went, source_went};
 
-use crate::{AnyNode, SourceNode};
-use rsx_rooted::{Batches, Noted};
+use crate::{AnyNode, SeveralNode, SourceNode};
+use rsx_rooted::{After, Batches, Noted};
+use rsx_sources::{Front, Machine};
 use rsx_types::Ops;
 use std::alloc::Global;
 
@@ -53,6 +54,73 @@ impl<T: Drop> Batches for SourceNode<T> {
     }
 }
 
+impl<T: Drop> Batches for SeveralNode<T> {
+    ghost went = { several_went };
+
+    #[inline]
+    fn most(&self) -> u64 {
+        match self {
+            SeveralNode::Concat(_) => u64::MAX,
+            SeveralNode::Merge(_)
+            | SeveralNode::MergeDelay(_)
+            | SeveralNode::Zip(_)
+            | SeveralNode::Latest(_) => 0,
+        }
+    }
+
+    fn peek<O: Ops<Item = T>>(
+        &self,
+        alloc: Global,
+        ops: &O,
+        most: u64,
+        items: &mut Vec<T>,
+    ) -> Option<Noted<T>> {
+        None
+    }
+
+    /// The items of a concat's input whose turn it is go through as they are.
+    fn try_pass<O: Ops<Item = T>>(
+        &self,
+        alloc: Global,
+        ops: &O,
+        input: u64,
+        items: &mut Vec<T>,
+        spare: &mut Vec<T>,
+    ) -> Option<Noted<T>> {
+        match self {
+            SeveralNode::Concat(node) => {
+                if !node.can_take(input, Front::Item) {
+                    return None;
+                }
+                Some(Noted {
+                    took: items.len() as u64,
+                    after: After::Counted,
+                })
+            }
+            SeveralNode::Merge(_)
+            | SeveralNode::MergeDelay(_)
+            | SeveralNode::Zip(_)
+            | SeveralNode::Latest(_) => None,
+        }
+    }
+
+    fn go_on(&mut self, noted: Noted<T>)
+        ensures { several_went self.old noted self.new }
+    {
+        match self {
+            SeveralNode::Concat(node) => {
+                if let After::Counted = noted.after {
+                    node.count_passed(noted.took);
+                }
+            }
+            SeveralNode::Merge(_)
+            | SeveralNode::MergeDelay(_)
+            | SeveralNode::Zip(_)
+            | SeveralNode::Latest(_) => {},
+        }
+    }
+}
+
 impl<T: Drop> Batches for AnyNode<T> {
     ghost went = { any_went };
 
@@ -61,8 +129,8 @@ impl<T: Drop> Batches for AnyNode<T> {
         match self {
             AnyNode::Source(node) => node.most(),
             AnyNode::Plain(node) => node.most(),
-            AnyNode::Several(_)
-            | AnyNode::PublishOn(_)
+            AnyNode::Several(node) => node.most(),
+            AnyNode::PublishOn(_)
             | AnyNode::PublishOnEager(_)
             | AnyNode::Window(_)
             | AnyNode::FlatMap(_)
@@ -101,8 +169,8 @@ impl<T: Drop> Batches for AnyNode<T> {
     ) -> Option<Noted<T>> {
         match self {
             AnyNode::Plain(node) => node.try_pass(alloc, ops, input, items, spare),
+            AnyNode::Several(node) => node.try_pass(alloc, ops, input, items, spare),
             AnyNode::Source(_)
-            | AnyNode::Several(_)
             | AnyNode::PublishOn(_)
             | AnyNode::PublishOnEager(_)
             | AnyNode::Window(_)
@@ -118,8 +186,8 @@ impl<T: Drop> Batches for AnyNode<T> {
         match self {
             AnyNode::Source(node) => node.go_on(noted),
             AnyNode::Plain(node) => node.go_on(noted),
-            AnyNode::Several(_)
-            | AnyNode::PublishOn(_)
+            AnyNode::Several(node) => node.go_on(noted),
+            AnyNode::PublishOn(_)
             | AnyNode::PublishOnEager(_)
             | AnyNode::Window(_)
             | AnyNode::FlatMap(_)

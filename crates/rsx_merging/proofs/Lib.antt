@@ -12,4 +12,5 @@ pub mod Rest
 pub mod Rests
 pub mod Taken
 pub mod Takes
+pub mod Through
 pub mod Turns

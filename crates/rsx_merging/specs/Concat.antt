@@ -1,5 +1,5 @@
 -- The concat as a node: how each input has ended so far, what the node has put out, and how many items it got.
-use Rattle.std.specs.Prelude.{◌≡◌, ⊤, ℕ, suc, ◌+◌, ◌-◌, min, Bool, true, false, ◌&&◌, nat_eq, if◌then◌else◌, List, [], ◌∷◌, slice_get, Option, Some, None, option_map}
+use Rattle.std.specs.Prelude.{◌≡◌, ⊤, ℕ, zero, suc, ◌+◌, ◌-◌, min, Bool, true, false, ◌&&◌, nat_eq, if◌then◌else◌, List, [], ◌∷◌, slice_get, Option, Some, None, option_map}
 use Rattle.rsx_sources.specs.Prelude.{Note, Ending, Open, Done, Failed, Signal, Next, Complete, Error, Meaning, Stream, ended_by, Incoming, quiet, front_of}
 use Rattle.rsx_demand.specs.Demand.{saturating_total}
 use Rattle.rsx_demand.specs.declared.TheConstants.{UNBOUNDED}
@@ -121,3 +121,14 @@ earlier_after es i earlier current = if nat_eq i (turn es) then saturating_total
 
 abbrev pub current_after : List Ending → ℕ → ℕ → ℕ
 current_after es i current = if nat_eq i (turn es) then 0 else current
+
+-- ---- items that go through it in one go
+
+-- the node after an item of the input whose turn it is went through it
+abbrev pub after_passed : {T : Type 0} → ConcatNode T → ConcatNode T
+after_passed n = record { endings = n.endings; output = n.output; earlier = n.earlier; current = saturating_total n.current 1 }
+
+-- the node after so many did
+abbrev pub after_all_passed : {T : Type 0} → ConcatNode T → ℕ → ConcatNode T
+after_all_passed n zero = n
+after_all_passed n (suc k) = after_all_passed (after_passed n) k

@@ -59,7 +59,7 @@ impl<T: Drop> ConcatNode<T> {
     ghost use Rattle.rsx_sources.specs.Machine.{Incoming, quiet};
     ghost use Rattle.rsx_values.specs.Concat.{concat};
     ghost use Rattle.rsx_queued.specs.Values.{first_values};
-    ghost use Rattle.rsx_merging.specs.Concat.{concat_comes_out, ending_out, earlier_after, current_after, IsInTurn};
+    ghost use Rattle.rsx_merging.specs.Concat.{concat_comes_out, ending_out, earlier_after, current_after, after_all_passed, IsInTurn};
 
     /// The concat of so many inputs. That of no inputs completes at once.
     ///
@@ -97,6 +97,17 @@ impl<T: Drop> ConcatNode<T> {
             self.earlier = saturating_total(self.earlier, self.current);
             self.current = 0;
         }
+    }
+
+    /// Counts so many items as got from the input whose turn it is: what [`Machine::pass`] counts when it is called for one after the
+    /// other, and each of them goes through.
+    pub fn count_passed(&mut self, items: u64)
+        ensures { self.new ≡ after_all_passed self.old items }
+    {
+        if items == 0 {
+            return;
+        }
+        self.current = saturating_total(self.current, items);
     }
 
     /// Notes how an input has ended.

@@ -5,18 +5,20 @@ use Rattle.rsx_sources.specs.declared.range.RangeNode.{RangeNode}
 use Rattle.rsx_queued.specs.declared.sender.Sender.{Sender}
 use Rattle.rsx_queued.specs.declared.sender.Sender.TheVariants.{Direct, Crossing}
 use Rattle.rsx_rooted.specs.declared.batch.After.{After}
-use Rattle.rsx_rooted.specs.declared.batch.After.TheVariants.{Range, Plain}
+use Rattle.rsx_rooted.specs.declared.batch.After.TheVariants.{Range, Plain, Counted}
 use Rattle.rsx_rooted.specs.declared.batch.Noted.{Noted}
 
 -- a range went on as it noted
 abbrev pub range_went : {T : Type 0} → RangeNode T → After T → RangeNode T → Type 0
 range_went old (Range node) new = new ≡ node
 range_went old (Plain node) new = new ≡ old
+range_went old Counted new = new ≡ old
 
 -- a plain operator went on as it noted
 abbrev pub plain_went : {T : Type 0} → PlainNode T → After T → PlainNode T → Type 0
 plain_went old (Plain node) new = new ≡ node
 plain_went old (Range node) new = new ≡ old
+plain_went old Counted new = new ≡ old
 
 -- the node inside went on, where the edge doesn't cross
 abbrev pub sender_went : {M T : Type 0} → (M → Noted T → M → Type 0) → Sender M T → Noted T → Sender M T → Type 0

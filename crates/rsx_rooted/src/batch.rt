@@ -22,6 +22,8 @@ pub enum After<T> {
     Range(RangeNode<T>),
     /// This plain operator.
     Plain(PlainNode<T>),
+    /// The same, which counted the items that it took in.
+    Counted,
 }
 
 /// What a node noted of a batch that was tried.
