@@ -3,8 +3,12 @@
 //! [`drive`](rsx_drive::drive) has its lines answered by a trait, and a method of an implementation may not start a thread by a bound of its
 //! block. So this reads and writes for itself what a live graph is told, and gives each line the handle.
 
+ghost use Rattle.std.specs.Prelude.{◌≡◌, ◌<◌, IfErr};
+ghost use Rattle.rsx_script.specs.Fault.{IsRunFault};
+
 use crate::live::LiveScript;
 use rsx_script::{AppFault, LineRefusal, MOST_BYTES};
+use rsx_types::NoMemory;
 use std::alloc::Global;
 use std::io::{Read, Write};
 use std::sync::Wait;
@@ -35,25 +39,34 @@ struct Lines {
 ///
 /// # Errors
 ///
-/// As [`drive`](rsx_drive::drive), but that the number of reads has no bound. `Memory` also as [`LiveScript::answer`] has it.
+/// As [`drive`](rsx_drive::drive), but that the number of reads has no bound: a line is never refused for want of memory, which is
+/// `Memory`. That comes also as [`LiveScript::answer`] has it.
 pub fn answer_live<H: Threads + Wait + Sync + Clock, R: Read, W: Write>(
     rt: &H,
     alloc: Global,
     reader: &mut R,
     writer: &mut W,
-) -> Result<(), AppFault> {
+) -> Result<(), AppFault>
+    ensures fault { IfErr result IsRunFault }
+{
+    let script = match LiveScript::new(alloc) {
+        Ok(script) => script,
+        Err(NoMemory) => return Err(AppFault::Memory),
+    };
     let mut lines = Lines {
-        script: LiveScript::new(alloc)?,
+        script,
         line: Vec::new(alloc),
         number: 1,
         out: String::new(alloc),
     };
-    let ended = lines.answer_all(rt, alloc, reader, writer);
-    if let Err(AppFault::Io) = ended {
-        return ended;
+    match lines.answer_all(rt, alloc, reader, writer) {
+        Ok(()) => lines.write(writer),
+        Err(AppFault::Io) => Err(AppFault::Io),
+        Err(fault) => match lines.write(writer) {
+            Ok(()) => Err(fault),
+            Err(unwritten) => Err(unwritten),
+        },
     }
-    lines.write(writer)?;
-    ended
 }
 
 impl Lines {
@@ -64,14 +77,23 @@ impl Lines {
         alloc: Global,
         reader: &mut R,
         writer: &mut W,
-    ) -> Result<(), AppFault> {
+    ) -> Result<(), AppFault>
+        requires { 0 < self.old.number }
+        ensures fault { IfErr result IsRunFault }
+    {
         let mut bytes = [0; READ_BYTES];
         for _ in 0..u64::MAX {
-            self.write(writer)?;
+            if let Err(fault) = self.write(writer) {
+                return Err(fault);
+            }
             match reader.read(&mut bytes) {
                 Ok(0) if self.line.is_empty() => return Ok(()),
                 Ok(0) => return self.end_line(rt, alloc),
-                Ok(count) => self.take_in(rt, alloc, &bytes[..count], writer)?,
+                Ok(count) => {
+                    if let Err(fault) = self.take_in(rt, alloc, &bytes[..count], writer) {
+                        return Err(fault);
+                    }
+                }
                 Err(_) => return Err(AppFault::Io),
             }
         }
@@ -85,11 +107,19 @@ impl Lines {
         alloc: Global,
         bytes: &[u8],
         writer: &mut W,
-    ) -> Result<(), AppFault> {
+    ) -> Result<(), AppFault>
+        requires { 0 < self.old.number }
+        ensures number { 0 < self.new.number }
+        ensures fault { IfErr result IsRunFault }
+    {
         for byte in bytes {
-            self.take(rt, alloc, *byte)?;
+            if let Err(fault) = self.take(rt, alloc, *byte) {
+                return Err(fault);
+            }
             if self.out.len() >= GATHERED_BYTES {
-                self.write(writer)?;
+                if let Err(fault) = self.write(writer) {
+                    return Err(fault);
+                }
             }
         }
         Ok(())
@@ -101,7 +131,11 @@ impl Lines {
         rt: &H,
         alloc: Global,
         byte: u8,
-    ) -> Result<(), AppFault> {
+    ) -> Result<(), AppFault>
+        requires { 0 < self.old.number }
+        ensures number { 0 < self.new.number }
+        ensures fault { IfErr result IsRunFault }
+    {
         if byte == b'\n' {
             return self.end_line(rt, alloc);
         }
@@ -119,7 +153,11 @@ impl Lines {
         &mut self,
         rt: &H,
         alloc: Global,
-    ) -> Result<(), AppFault> {
+    ) -> Result<(), AppFault>
+        requires { 0 < self.old.number }
+        ensures number { 0 < self.new.number }
+        ensures fault { IfErr result IsRunFault }
+    {
         match self.script.answer(rt, alloc, &self.line, &mut self.out) {
             Ok(()) => {
                 self.line.clear();
@@ -132,7 +170,10 @@ impl Lines {
     }
 
     /// Writes the answers that weren't written yet. Where that fails, those that are left are let go.
-    fn write<W: Write>(&mut self, writer: &mut W) -> Result<(), AppFault> {
+    fn write<W: Write>(&mut self, writer: &mut W) -> Result<(), AppFault>
+        ensures number { self.new.number ≡ self.old.number }
+        ensures fault { IfErr result IsRunFault }
+    {
         if self.out.is_empty() {
             return Ok(());
         }
