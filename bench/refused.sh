@@ -4,8 +4,9 @@
 #
 # 1. Calls of a graph (`test_random` with a word): the Nth growth is refused, for each N. What the graph owes, what was asked, what nodes
 #    recorded and how leaves joined has to be as before the refused call, and the same call has to answer then as in a run without it.
-# 2. `rsx run`, `scratch` and `tck` over the files of examples/: for each N the program has to end with status 0, or with 4 for want of
-#    memory, and what it wrote before the first refusal has to be what it writes without it.
+# 2. `rsx run`, `scratch`, `tck` and `live` over the files of examples/: for each N the program has to end with status 0, or with 4 for want
+#    of memory, and what it wrote before the first refusal has to be what it writes without it. Which growth of `live` is the Nth is up to
+#    its threads.
 # 3. Items through `map`, `filter` and `publishOn` (`test_random` with five words): each growth after the first 100 items is refused, and 10,000 more have
 #    to arrive.
 #
@@ -27,7 +28,7 @@ runs=0 wrong=0
 run() {
     local setting=$1 input=$2
     shift 2
-    env "$setting" GROWTHS="$room/growths" LD_PRELOAD="$room/refuse.so" "$@" <"$input" >"$room/out" 2>"$room/said"
+    env "$setting" GROWTHS="$room/growths" LD_PRELOAD="$room/refuse.so" timeout 60 "$@" <"$input" >"$room/out" 2>"$room/said"
     status=$?
     ((runs++))
 }
@@ -68,6 +69,7 @@ if [[ -x $rsx ]]; then
     for input in examples/*.rsx examples/*.trace examples/*.expressions; do
         [[ -f $input ]] || continue
         case $input in
+            */live.rsx) modes=live ;;
             *.rsx) modes='run scratch' ;;
             *) modes=tck ;;
         esac
