@@ -9,8 +9,8 @@ ghost use Rattle.rsx_live.specs.Starts.{AreTapsOf, IsStarted};
 
 use rsx_demo::{Demo, Val};
 use rsx_kinds::TreeNode;
-use rsx_live::{LiveGraph, StartedGraph, Tap};
-use rsx_runtime::{Parkers, RegionSeat, Rouser, Served, serve_on_threads};
+use rsx_live::{LiveGraph, StartedGraph, Tap, serve_regions};
+use rsx_runtime::{Parkers, RegionSeat, Rouser};
 use rsx_types::{NoMemory, Signal, SubId};
 use std::alloc::Global;
 use std::sync::Wait;
@@ -49,7 +49,10 @@ struct Taken {
 }
 
 /// What comes back from the regions and from the calling thread.
-type Back = Served<TreeNode<Val>, Val, Demo, Taken>;
+struct Back {
+    seats: Vec<RegionSeat<TreeNode<Val>, Val, Demo>>,
+    answer: Taken,
+}
 
 /// Serves each region by a worker on a thread of its own, while the calling thread takes what is ordered. It stops the workers once it
 /// has all of that, or found nothing for some turns. Then each worker ends once it finds nothing to do in its region; another may still
@@ -68,7 +71,7 @@ pub fn serve_order<R: Threads + Wait + Sync + Clock>(
     ensures { IfOk result (λ r. IsStarted r.0) }
 {
     let StartedGraph { live, taps, seats } = started;
-    let back = serve_regions(rt, alloc, &live, &live, taps, seats, order)?;
+    let back = serve_and_take(rt, alloc, &live, &live, taps, seats, order)?;
     put_together(live, back)
 }
 
@@ -79,14 +82,14 @@ fn put_together(
 ) -> Result<(StartedGraph<Demo>, Vec<Signal<Val>>), NoMemory>
     ensures { IfOk result (λ r. (r.0.live ≡ live) × (r.0.taps ≡ back.answer.taps) × (r.0.seats ≡ back.seats)) }
 {
-    let Served { seats, answer } = back;
+    let Back { seats, answer } = back;
     let Taken { taps, signals } = answer;
     let signals = signals?;
     Ok((StartedGraph { live, taps, seats }, signals))
 }
 
 /// Serves the regions of this graph so, by these taps and seats. It is borrowed twice: by the calling thread, and by the workers.
-fn serve_regions<R: Threads + Wait + Sync + Clock>(
+fn serve_and_take<R: Threads + Wait + Sync + Clock>(
     rt: &R,
     alloc: Global,
     graph: &LiveGraph<Demo>,
@@ -107,7 +110,8 @@ fn serve_regions<R: Threads + Wait + Sync + Clock>(
         requires { AreTapsOf graph.now taps.items }
         ensures { AreTapsOf graph.entry.now result.taps.items }
     { take_all(rt, alloc, graph, taps, order, rouser) };
-    Ok(serve_on_threads(rt, alloc, served.live(), seats, parkers, main))
+    let (seats, answer) = serve_regions(rt, alloc, served, seats, parkers, main);
+    Ok(Back { seats, answer })
 }
 
 /// Takes what is ordered.

@@ -8,6 +8,7 @@
 //! - [`lives`]: [`LiveSubscriptions`], and [`LiveSubscriptions::close`], by which the subscriptions come back.
 //! - [`outgoing`]: [`go_out`], by which the part of a subscription becomes a piece, with a tap for its subscriber.
 //! - [`returning`]: [`come_back`], by which the piece becomes the part of a subscription again.
+//! - [`serving`]: [`serve_regions`], by which the regions are served on threads.
 //! - [`started`]: the calls of [`StartedGraph`] by which one thread drives a live graph, and those of [`LiveGraph`] by which a thread
 //!   takes, requests and cancels while others have its seats.
 //!
@@ -23,6 +24,7 @@ pub mod kept;
 pub mod lives;
 pub mod outgoing;
 pub mod returning;
+pub mod serving;
 pub mod started;
 mod unread;
 mod workers;
@@ -34,6 +36,7 @@ pub use kept::{Kept, Parted};
 pub use lives::LiveSubscriptions;
 pub use outgoing::{Outgoing, Stay, go_out};
 pub use returning::come_back;
+pub use serving::serve_regions;
 
 // What the calls of a live graph answer, and the taps of its subscriptions.
 pub use rsx_runtime::{Poked, Tap};

@@ -51,7 +51,7 @@ pub use pass::{RegionLeft, RegionPass};
 pub use rest::{Rest, Rested};
 pub use stopping::Stopped;
 pub use tap::{Canceller, Tap, TapEnds, Tapped};
-pub use threads::{Served, serve_on_threads};
+pub use threads::{Served, serve_on_threads, serve_seats};
 pub use worker::work;
 
 /// How often a poke serves its region before it gives up the gate.

@@ -6,6 +6,7 @@ ghost use Rattle.std.specs.List.{AllZip};
 ghost use Rattle.rsx_gate.specs.Machine.{all_parts};
 ghost use Rattle.rsx_gate.specs.Seats.{IsSeatOf};
 ghost use Rattle.rsx_runtime.specs.Poking.{IsAmong};
+ghost use Rattle.rsx_runtime.specs.Seated.{HaveServed, MayServe};
 ghost use Rattle.rsx_runtime.specs.declared.TheConstants.{MOST_WORKERS};
 ghost use Rattle.rsx_runtime.specs.declared.park.Rouser.{Rouser as RouserSpec};
 
@@ -86,4 +87,25 @@ pub fn serve_on_threads<
     { worked(rt, alloc, live, region, seat, rest) };
     let (seats, answer) = serve_each(rt, &serve, seats, rests, rouser, main);
     Served { seats, answer }
+}
+
+/// Has each seat be served at its place, on a thread of its own with a parker of its own, by a function of the caller's, which gives the
+/// seat back, and runs `main` on the calling thread meanwhile; all else is as of [`serve_on_threads`]. A caller to whom the prover can't
+/// say in one call that its nodes are nodes, and all that stands here, has [`work`] called by that function.
+pub fn serve_seats<
+    R: Threads + Wait + Sync,
+    S: Send + Drop,
+    L: Fn(u8, S, ParkRest) -> S + Sync,
+    A,
+    F: FnOnce(&mut Rouser) -> A,
+>(rt: &R, serve: &L, seats: Vec<S>, parkers: Parkers, main: F) -> (Vec<S>, A)
+    requires seats { MayServe L.Fn serve.now seats.items }
+    requires few { length seats.items ≤ MOST_WORKERS }
+    requires parkers { length parkers.rests.items ≡ length seats.items }
+    requires main { F.IsAlwaysCallable main }
+    ensures seats { HaveServed L.Fn serve.now seats.items result.0.items }
+    ensures answer { (was : RouserSpec) × (is : RouserSpec) × (length was.unparkers.items ≡ length seats.items) × FnOnceReturnsAtMut F.FnOnce main was result.1 is }
+{
+    let Parkers { rouser, rests } = parkers;
+    serve_each(rt, serve, seats, rests, rouser, main)
 }

@@ -11,8 +11,8 @@ use crate::driven::Log;
 use anyhow::{Result, bail};
 use rsx_demo::{Demo, Val};
 use rsx_kinds::TreeNode;
-use rsx_live::{LiveGraph, StartedGraph, Tap};
-use rsx_runtime::{Parkers, RegionSeat, Rouser, Served, serve_on_threads};
+use rsx_live::{LiveGraph, StartedGraph, Tap, serve_regions};
+use rsx_runtime::{Parkers, RegionSeat, Rouser};
 use rsx_types::{Ops, Signal};
 use std::alloc::Global;
 use std::sync::Wait;
@@ -41,7 +41,10 @@ struct Taken<T> {
 }
 
 /// What comes back from the regions and from the calling thread.
-type Back = Served<TreeNode<Val>, Val, Demo, Taken<Val>>;
+struct Back {
+    seats: Vec<RegionSeat<TreeNode<Val>, Val, Demo>>,
+    answer: Taken<Val>,
+}
 
 /// Serves the regions on threads until all is taken.
 ///
@@ -57,7 +60,7 @@ pub fn serve<R: Threads + Wait + Sync + Clock>(
     ensures { IfOk result (λ r. IsStarted r.0) }
 {
     let StartedGraph { live, taps, seats } = started;
-    let back = serve_regions(rt, alloc, &live, &live, taps, seats, requests)?;
+    let back = serve_and_take(rt, alloc, &live, &live, taps, seats, requests)?;
     put_together(live, back)
 }
 
@@ -65,7 +68,7 @@ pub fn serve<R: Threads + Wait + Sync + Clock>(
 fn put_together(live: LiveGraph<Demo>, back: Back) -> Result<(StartedGraph<Demo>, Log<Val>)>
     ensures { IfOk result (λ r. (r.0.live ≡ live) × (r.0.taps ≡ back.answer.taps) × (r.0.seats ≡ back.seats)) }
 {
-    let Served { seats, answer } = back;
+    let Back { seats, answer } = back;
     let Taken {
         taps,
         received,
@@ -77,7 +80,7 @@ fn put_together(live: LiveGraph<Demo>, back: Back) -> Result<(StartedGraph<Demo>
 
 /// Serves the regions of this graph on threads until all is taken, by these taps and seats. It is borrowed twice: by the calling thread,
 /// and by the workers.
-fn serve_regions<R: Threads + Wait + Sync + Clock>(
+fn serve_and_take<R: Threads + Wait + Sync + Clock>(
     rt: &R,
     alloc: Global,
     graph: &LiveGraph<Demo>,
@@ -98,7 +101,8 @@ fn serve_regions<R: Threads + Wait + Sync + Clock>(
         requires { AreTapsOf graph.now taps.items }
         ensures { AreTapsOf graph.entry.now result.taps.items }
     { take_all(rt, alloc, graph, taps, requests, rouser) };
-    Ok(serve_on_threads(rt, alloc, served.live(), seats, parkers, main))
+    let (seats, answer) = serve_regions(rt, alloc, served, seats, parkers, main);
+    Ok(Back { seats, answer })
 }
 
 /// Requests and takes, in turns, until all subscriptions have ended.
