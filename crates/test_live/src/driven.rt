@@ -11,7 +11,7 @@ use rsx_model::Expr;
 use rsx_types::{Ops, Signal, SubId};
 use std::alloc::Global;
 
-/// How many workers there are. It is enough for all expressions.
+/// How many workers there are, but for the expressions that tell how many they want. It is enough for all others.
 pub const WORKERS: u8 = 5;
 
 /// How many turns are made while a graph is live.
@@ -133,7 +133,17 @@ pub fn live<O: Ops>(
 pub fn start<O: Ops>(alloc: Global, graph: Graph<O>) -> Result<StartedGraph<O>>
     ensures { IfOk result (λ s. IsStarted s) }
 {
-    match LiveGraph::go_live(alloc, graph, WORKERS) {
+    start_with(alloc, graph, WORKERS)
+}
+
+/// The graph goes live with so many workers.
+///
+/// # Errors
+/// As those of [`start`].
+pub fn start_with<O: Ops>(alloc: Global, graph: Graph<O>, workers: u8) -> Result<StartedGraph<O>>
+    ensures { IfOk result (λ s. IsStarted s) }
+{
+    match LiveGraph::go_live(alloc, graph, workers) {
         Ok(started) => Ok(started),
         Err(NotStarted::TooFewWorkers(_)) => bail!("there are too few workers"),
         Err(NotStarted::NoMemory(_)) => bail!("there is no memory"),

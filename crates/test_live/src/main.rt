@@ -9,21 +9,30 @@
 //! the beginning of that value.
 //!
 //! It writes a line for each expression: how many runs there were and, in all of them, at how many edges they were cut, how many signals
-//! were received, and how many of these taps gave. Then each expression goes live twice more, with its regions served on threads. The first comparison that differs, and the first join that is refused, end the program
-//! with status 1.
+//! were received, and how many of these taps gave. Then each expression goes live twice more, with its regions served on threads, until
+//! all subscriptions have ended. Then it does so again for some seeds, as do further expressions with more workers and with fewer: the
+//! calling thread makes calls by chance, stops at some moment, and closes the graph. What came by then is up to the system, so that it is
+//! compared, as above, and not written. The first comparison that differs, and the first join that is refused, end the program with
+//! status 1.
 //!
 //! `test_live WAY COUNT` does none of that: it sends so many numbers through a graph, and prints how many items came and their sum, and no
 //! time, so that `bench/live.sh` counts its instructions. WAY is `queue`, where the graph is pumped, or `link`, where it is live. With one
 //! word, as `test_live threads`, only the runs on threads are made.
 
+mod beside;
+mod chance;
 mod compared;
 mod driven;
 mod numbers;
 mod serving;
+mod stopped;
 mod threaded;
 mod timed;
 mod trial;
 
+use crate::driven::WORKERS;
+use crate::serving::Requests;
+use crate::stopped::{SEEDS, try_stopped};
 use crate::threaded::try_on_threads;
 use crate::timed::{lived, pumped};
 use crate::trial::{Tried, try_refused, try_seeds};
@@ -59,6 +68,19 @@ const EXPRESSIONS: [&'static str; 22] = [
     "(publishOnEager 1 4 (map inc (publishOn 2 4 (items 1 2 3 9223372036854775807 4))))",
 ];
 
+/// Expressions with so many regions, each of which a worker of its own serves.
+const BY_WORKERS: [(u8, &'static str); 3] = [
+    (2, "(publishOn 1 2 (range 1 12))"),
+    (
+        4,
+        "(publishOn 1 2 (publishOn 2 1 (publishOn 3 3 (range 1 12))))",
+    ),
+    (
+        8,
+        "(publishOn 1 2 (publishOn 2 1 (publishOn 3 2 (publishOn 4 3 (publishOn 5 2 (publishOn 6 1 (publishOn 7 2 (range 1 12))))))))",
+    ),
+];
+
 /// Tries all expressions, and writes a line for each.
 fn try_all(rt: &(impl Print + AllocGlobal)) -> Result<()> {
     for text in &EXPRESSIONS {
@@ -84,9 +106,24 @@ fn try_all_on_threads<R: Print + AllocGlobal + Threads + Wait + Sync + Clock>(
     rt: &R,
 ) -> Result<()> {
     for text in &EXPRESSIONS {
-        try_on_threads(rt, rt.alloc(), text, [(0, 1), (1, 2)])?;
-        try_on_threads(rt, rt.alloc(), text, [(1, 5), (0, 3)])?;
+        let by_one_and_two = Requests::InTurns([(0, 1), (1, 2)]);
+        try_on_threads(rt, rt.alloc(), text, by_one_and_two)?;
+        let by_five_and_three = Requests::InTurns([(1, 5), (0, 3)]);
+        try_on_threads(rt, rt.alloc(), text, by_five_and_three)?;
         println!(rt; "{text}: twice on threads, equal")?;
+    }
+    Ok(())
+}
+
+/// Makes runs on threads that stop at some moment, and writes a line for each expression.
+fn try_all_stopped<R: Print + AllocGlobal + Threads + Wait + Sync + Clock>(rt: &R) -> Result<()> {
+    for text in &EXPRESSIONS {
+        try_stopped(rt, rt.alloc(), text, WORKERS)?;
+        println!(rt; "{text}: {SEEDS} random runs on threads, equal")?;
+    }
+    for (workers, text) in BY_WORKERS {
+        try_stopped(rt, rt.alloc(), text, workers)?;
+        println!(rt; "{text}: {SEEDS} random runs on {workers} threads, equal")?;
     }
     Ok(())
 }
@@ -106,10 +143,14 @@ fn main(rt: HostRuntime) -> Result<()> {
     let mut words = env::args(&rt)?.skip(1);
     match (words.next(), words.next()) {
         (Some(way), Some(count)) => time(&rt, way.as_str(), count.as_str()),
-        (Some(_), None) => try_all_on_threads(&rt),
+        (Some(_), None) => {
+            try_all_on_threads(&rt)?;
+            try_all_stopped(&rt)
+        }
         _ => {
             try_all(&rt)?;
-            try_all_on_threads(&rt)
+            try_all_on_threads(&rt)?;
+            try_all_stopped(&rt)
         }
     }
 }

@@ -7,6 +7,8 @@ ghost use Rattle.rsx_gate.specs.Seats.{IsSeatOf};
 ghost use Rattle.rsx_runtime.specs.declared.TheConstants.{MOST_WORKERS};
 ghost use Rattle.rsx_live.specs.Starts.{AreTapsOf, IsStarted};
 
+use crate::beside::take_beside;
+use crate::chance::{Chance, take_by_chance};
 use crate::driven::Log;
 use anyhow::{Result, bail};
 use rsx_demo::{Demo, Val};
@@ -30,14 +32,28 @@ const PAUSE: u64 = 100;
 const ALL: u32 = 1_000;
 
 /// Which subscriptions request in a turn, one after the other, by the places of their taps, and how many items each.
-pub type Requests = [(usize, i64); 2];
+pub type Turn = [(usize, i64); 2];
+
+/// What the calling thread requests, and when all is taken.
+#[derive(Drop)]
+pub enum Requests {
+    /// So in each turn, until all subscriptions have ended.
+    InTurns(Turn),
+    /// By chance, until as many turns were made as that tells.
+    ByChance(Chance),
+    /// The same, while a thread of its own cancels after so many microseconds.
+    Beside(Chance, u32),
+}
 
 /// What the calling thread has once all is taken.
 #[derive(Drop)]
-struct Taken<T> {
-    taps: Vec<Tap<T>>,
-    received: Log<T>,
-    outcome: Result<()>,
+pub struct Taken<T> {
+    /// The taps.
+    pub taps: Vec<Tap<T>>,
+    /// What they gave.
+    pub received: Log<T>,
+    /// What went wrong.
+    pub outcome: Result<()>,
 }
 
 /// What comes back from the regions and from the calling thread.
@@ -105,20 +121,41 @@ fn serve_and_take<R: Threads + Wait + Sync + Clock>(
     Ok(Back { seats, answer })
 }
 
+/// Requests and takes so, until all is taken.
+fn take_all<R: Threads + Sync + Clock>(
+    rt: &R,
+    alloc: Global,
+    graph: &LiveGraph<Demo>,
+    taps: Vec<Tap<Val>>,
+    requests: Requests,
+    rouser: &mut Rouser,
+) -> Taken<Val>
+    requires { AreTapsOf graph.now taps.items }
+    ensures { AreTapsOf graph.now result.taps.items }
+{
+    match requests {
+        Requests::InTurns(turn) => take_in_turns(rt, alloc, graph, taps, turn, rouser),
+        Requests::ByChance(chance) => take_by_chance(rt, alloc, graph, taps, chance, rouser),
+        Requests::Beside(chance, pause) => {
+            take_beside(rt, alloc, graph, taps, chance, pause, rouser)
+        }
+    }
+}
+
 /// Requests and takes, in turns, until all subscriptions have ended.
-fn take_all<R: Clock, O: Ops>(
+fn take_in_turns<R: Clock, O: Ops>(
     rt: &R,
     alloc: Global,
     graph: &LiveGraph<O>,
     mut taps: Vec<Tap<O::Item>>,
-    requests: Requests,
+    turn: Turn,
     rouser: &mut Rouser,
 ) -> Taken<O::Item>
     requires { AreTapsOf graph.now taps.items }
     ensures { AreTapsOf graph.now result.taps.items }
 {
     let mut received = Vec::new(alloc);
-    let outcome = take_turns(rt, graph, &mut taps, requests, rouser, &mut received);
+    let outcome = take_turns(rt, graph, &mut taps, turn, rouser, &mut received);
     Taken {
         taps,
         received,
@@ -131,7 +168,7 @@ fn take_turns<R: Clock, O: Ops>(
     rt: &R,
     graph: &LiveGraph<O>,
     taps: &mut Vec<Tap<O::Item>>,
-    requests: Requests,
+    turn: Turn,
     rouser: &mut Rouser,
     received: &mut Log<O::Item>,
 ) -> Result<()>
@@ -140,8 +177,8 @@ fn take_turns<R: Clock, O: Ops>(
 {
     for _ in 0..TURNS {
         let before = received.len();
-        take_turn(graph, taps, requests[0], rouser, received)?;
-        take_turn(graph, taps, requests[1], rouser, received)?;
+        take_turn(graph, taps, turn[0], rouser, received)?;
+        take_turn(graph, taps, turn[1], rouser, received)?;
         if endings(received) >= taps.len() {
             return Ok(());
         }
