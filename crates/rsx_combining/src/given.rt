@@ -130,6 +130,7 @@ impl<T: Drop> LatestRow<T> for Vec<T> {
             },
         }
     }
+
     // Not inlined, so that what makes the later rows stays small.
     #[inline(never)]
     #[tactic(auto, using(crate::proofs::Gives::there_with))]

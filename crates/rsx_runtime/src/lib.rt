@@ -11,7 +11,8 @@
 //!
 //! [`serve_on_threads`] gives each region of a [`Live`] such a worker, which rests on a parker ([`Parkers`]), starts a thread for each,
 //! and runs `main` on the calling thread meanwhile. As `main` returns all workers are stopped, and once they have ended all seats come
-//! back, so that the graph may be closed. Only `serve_on_threads`, `work` and the rest of a `ParkRest` wait.
+//! back, so that the graph may be closed. [`serve_seats`] does so with seats of any type, by a function of the caller's. Only these two,
+//! `work` and the rest of a `ParkRest` wait.
 //!
 //! [`Live::begin`] puts the pieces of trees that were cut into regions, and opens a gate for each. By [`Live::close`] the gates end, and
 //! the trees come back; by [`Live::stop`] the regions do.
