@@ -1,5 +1,5 @@
 -- How an item is pulled through a part.
-use Rattle.std.proofs.Common.{◌≡◌, ℕ, ◌+◌, ◌-◌, ◌<◌, ◌⊎◌, true, Option, Some, None, inl, inr, refl, sym, subst, arith}
+use Rattle.std.proofs.Common.{◌≡◌, ℕ, ◌+◌, ◌-◌, ◌<◌, ◌⊎◌, true, Option, Some, None, inl, inr, refl, sym, ◌∙◌, subst, arith}
 use Rattle.rsx_sources.specs.Prelude.{Meaning, Next}
 use Rattle.rsx_sources.specs.declared.machine.Front.TheVariants.{Item}
 use Rattle.rsx_tree.proofs.Shut.{pick_alive, row_alive}
@@ -49,6 +49,12 @@ fetched_step b m budget left x y z h some k = fetched_on b m budget left (left -
 -- no move
 pub fetched_same : {M T : Type 0} (b : Machine M T) (m : Meaning T) (budget left : ℕ) (x y z : Rooted M) → IsFetched b m budget x None left y → z ≡ y → IsFetched b m budget x None left z
 fetched_same {M} b m budget left x y z h same = let Q : Rooted M → Type 0 = λ k. IsFetched b m budget x None left k in subst Q (sym same) h
+
+-- no move, where nothing had changed
+pub fetched_still : {M T : Type 0} (b : Machine M T) (m : Meaning T) (budget left : ℕ) (x y z : Rooted M) → left ≡ budget → y ≡ x → z ≡ y → IsFetched b m budget x None left z
+fetched_still b m budget left x y z same is still =
+    let here : IsFetched b m budget x None budget z = fetched_same b m budget budget x x z (fetched_nothing b m budget x) (still ∙ is) in
+    subst (λ (n : ℕ). IsFetched b m budget x None n z) (sym same) here
 
 -- one move at first, where nothing had changed
 pub fetched_first : {M T : Type 0} (b : Machine M T) (m : Meaning T) (budget left : ℕ) (x y z : Rooted M) → 0 < budget → left ≡ budget → y ≡ x → IsWorked b m 1 y z → IsFetched b m budget x None (left - 1) z

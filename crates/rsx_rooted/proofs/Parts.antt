@@ -28,7 +28,7 @@ use Rattle.rsx_tree.proofs.Alike.{or_right, alike_still, alike_then, driven_alik
 use Rattle.rsx_tree.proofs.Drives.{chosen_run}
 use Rattle.rsx_tree.proofs.Runs.{gives_none, gives_on, gives_one, leads_silent}
 use Rattle.rsx_tree.specs.Runs.{Unlabelled}
-use Rattle.rsx_tree.proofs.Noted.{picked_effect, picked_enabled, row_effect, row_enabled as row_made_enabled}
+use Rattle.rsx_tree.proofs.Noted.{chosen_then, picked_effect, picked_enabled, row_effect, row_enabled as row_made_enabled}
 use Rattle.rsx_tree.proofs.Changes.{chosen_second}
 use Rattle.rsx_rooted.proofs.Numbers.{above_zero, suc_minus}
 use Rattle.rsx_rooted.proofs.Signals.{IsOrderly-more, IsUnended-more, IsUnended-last, items_in-append, map_then-last}
@@ -180,7 +180,15 @@ put_out_on {T = T} b m a mid c first rest x y published e joins output h =
 -- ---- many moves
 
 pub pumped_none : {M S T : Type 0} (b : Machine M T) (k : Sink S T) (m : Meaning T) (part : Rooted M) (sink : S) → IsPumped b k m 0 part sink part sink
-pumped_none b k m part sink = record { out = []; queued = sym (append-nil (k.signals sink)); moves = gives_none (IsMovedOver b k m) (λ o. o) (part, sink) (part, sink) refl; stands = put_out_none b m part; asked = refl; unclosed = λ h. h; alike = alike_still b part.tree }
+pumped_none b k m part sink = record { out = []; queued = sym (append-nil (k.signals sink)); moves = gives_none (IsMovedOver b k m) (λ o. o) (part, sink) (part, sink) refl; stands = put_out_none b m part; inside = λ _. refl; chosen = λ _. chosen_run b m true 0 part.tree part.tree 0 0 refl; balance = λ _ _ h. h; asked = refl; unclosed = λ h. h; alike = alike_still b part.tree }
+
+nothing_first : {A : Type 0} (xs ys : List A) → xs ++ ys ≡ [] → xs ≡ []
+nothing_first [] ys e = refl
+nothing_first (x ∷ xs) ys e = cc
+
+nothing_then : {A : Type 0} (xs ys : List A) → xs ++ ys ≡ [] → ys ≡ []
+nothing_then [] ys e = e
+nothing_then (x ∷ xs) ys e = cc
 
 pub pumped_on : {M S T : Type 0} (b : Machine M T) (k : Sink S T) (m : Meaning T) (n i : ℕ) (a mid c : Rooted M) (q q' q'' : S) → IsPumped b k m n a q mid q' → IsPumped b k m i mid q' c q'' → IsPumped b k m (n + i) a q c q''
 pumped_on b k m n i a mid c q q' q'' x y = record {
@@ -188,6 +196,9 @@ pumped_on b k m n i a mid c q q' q'' x y = record {
   queued = y.queued ∙ (ap (λ l. l ++ y.out) x.queued ∙ append_assoc (k.signals q) x.out y.out);
   moves = gives_on (IsMovedOver b k m) (λ o. o) n i (a, q) (mid, q') (c, q'') x.out y.out x.moves y.moves;
   stands = put_out_on b m a mid c x.out y.out x.stands y.stands;
+  inside = λ none. y.inside (nothing_then x.out y.out none) ∙ x.inside (nothing_first x.out y.out none);
+  chosen = λ none. chosen_then b m a.tree mid.tree c.tree (x.chosen (nothing_first x.out y.out none)) (y.chosen (nothing_then x.out y.out none));
+  balance = λ none sent h. y.balance (nothing_then x.out y.out none) sent (x.balance (nothing_first x.out y.out none) sent h);
   asked = y.asked ∙ x.asked;
   unclosed = λ h. y.unclosed (x.unclosed h);
   alike = alike_then b a.tree mid.tree c.tree x.alike y.alike;
@@ -305,6 +316,9 @@ pumped_made b k m move old new sink sink' can h = record {
   queued = h.2;
   moves = gives_one (IsMovedOver b k m) (λ o. o) (old, sink) (new, sink') h.0 (record { move = move; enabled = can; effect = h.1.effect; queued = h.2 });
   stands = h.1.stands;
+  inside = h.1.inside;
+  chosen = h.1.chosen;
+  balance = h.1.balance;
   asked = h.1.asked;
   unclosed = h.1.unclosed;
   alike = h.1.alike;
@@ -355,6 +369,9 @@ pumped_driven b k m n old tree sink d balance = record {
   queued = sym (append-nil (k.signals sink));
   moves = driven_moves b k m n old.root old.tree tree sink d;
   stands = driven_put_out b m n old.root old.tree tree d balance;
+  inside = λ _. refl;
+  chosen = λ _. chosen_run b m true n old.tree tree old.root.demand.asked old.root.demand.sent d;
+  balance = λ _. balance;
   asked = refl;
   unclosed = λ h. h;
   alike = driven_alike b m true n old.tree old.root.demand.asked old.root.demand.sent tree d;
@@ -367,6 +384,9 @@ worked_into {M = M} {S = S} {T = T} b k m n old new sink x = record {
   queued = sym (append-nil (k.signals sink));
   moves = leads_silent (IsMovedOver b no_room m) (IsMovedOver b k m) (λ (o : List (Signal T)). o) beside [] refl into n (old, tt) (new, tt) x.moves.labels x.moves.count x.moves.run;
   stands = subst (λ o. IsPutOut b m old o new) (sym x.queued) x.stands;
+  inside = λ _. x.inside (sym x.queued);
+  chosen = λ _. x.chosen (sym x.queued);
+  balance = λ _. x.balance (sym x.queued);
   asked = x.asked;
   unclosed = x.unclosed;
   alike = x.alike;

@@ -213,6 +213,11 @@ pub record IsPumped {M S T : Type 0} (b : Machine M T) (k : Sink S T) (m : Meani
   pub queued : k.signals sink' ≡ k.signals sink ++ out
   pub moves : IsMovedBy b k m count old sink out new sink'
   pub stands : IsPutOut b m old out new
+  -- where nothing went over the root edge, that edge stays, what still comes out stays, under what was chosen, and so do the
+  -- counts along the edges
+  pub inside : out ≡ [] → new.root ≡ old.root
+  pub chosen : out ≡ [] → IsChosen b m old.tree new.tree
+  pub balance : out ≡ [] → (sent : ℕ) → IsBalanced b old.tree sent → IsBalanced b new.tree sent
   -- what was asked, and that its root edge is open, stays
   pub asked : new.root.demand.asked ≡ old.root.demand.asked
   pub unclosed : (old.root.state ≡ Closed → ⊥) → new.root.state ≡ Closed → ⊥

@@ -266,7 +266,7 @@ impl<M: Machine> Rooted<M> {
     /// It answers nothing where the root edge carries no item now, where the budget is used up, and where the way to an item
     /// isn't straight, as [`Node::fetch`] says. Then the moves made stand, nothing went over the root edge, and
     /// [`Rooted::pump`] goes on from there.
-    #[inline]
+    #[inline(always)]
     pub fn fetch<O: Ops<Item = M::Item>>(
         &mut self,
         alloc: Global,
@@ -295,7 +295,7 @@ impl<M: Machine> Rooted<M> {
 
     /// Makes a pick or a row of the root and sends the item that comes of it over the root edge, where the root does both at once
     /// ([`Node::step_item`]). Both moves are taken from the budget that is `left`. With no item nothing has changed.
-    #[inline]
+    #[inline(always)]
     fn step_out<O: Ops<Item = M::Item>>(
         &mut self,
         alloc: Global,
@@ -320,7 +320,7 @@ impl<M: Machine> Rooted<M> {
 
     /// Makes a pick or a row of the root, where one is enabled, and takes it from the budget that is `left`. Where the root gives the item
     /// of it out at once, that goes over the root edge, by one move more, and is answered.
-    #[inline]
+    #[inline(always)]
     fn count_step<O: Ops<Item = M::Item>>(
         &mut self,
         alloc: Global,
@@ -385,7 +385,7 @@ impl<M: Machine> Rooted<M> {
     }
 
     /// As [`Rooted::fetch`], without picks and rows of the root.
-    #[inline]
+    #[inline(always)]
     fn fetch_item<O: Ops<Item = M::Item>>(
         &mut self,
         alloc: Global,
