@@ -137,6 +137,10 @@ impl<M: Machine> Node<M> {
         ensures { result ≡ min (readers M.Machine hub self.now) most }
     {
         let here = reader_of(&self.machine, hub, most);
+        // A tree of one node has nothing below it.
+        if self.inputs.is_end() {
+            return here;
+        }
         here + self.inputs.readers_up_to(hub, most - here)
     }
 
@@ -152,7 +156,7 @@ impl<M: Machine> Node<M> {
     pub fn has_room(&self, hub: u64) -> bool
         ensures { result ≡ has_room M.Machine hub self.now }
     {
-        has_room_for(&self.machine, hub) && self.inputs.has_room(hub)
+        has_room_for(&self.machine, hub) && (self.inputs.is_end() || self.inputs.has_room(hub))
     }
 
     /// Hands a signal of the hub to each node of the tree that reads it, out of a list that has it once for each; what else
