@@ -165,7 +165,7 @@ impl<N: Nodes> Part<N> {
     /// It answers nothing where the root edge carries no item now, where the budget is used up, and where the way to an item
     /// isn't straight, as [`rsx_tree::Node::fetch`] says. Then the moves made stand, nothing went over the root edge, and
     /// [`Part::pump`] goes on from there.
-    #[inline]
+    #[inline(always)]
     pub fn fetch<O: Ops<Item = N::Item>>(
         &mut self,
         alloc: Global,

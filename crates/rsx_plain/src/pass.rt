@@ -170,7 +170,7 @@ impl<T: Drop> Through for T {
         }
     }
 
-    #[inline]
+    #[inline(always)]
     fn through_distinct<O: Ops<Item = T>>(
         self,
         ops: &O,

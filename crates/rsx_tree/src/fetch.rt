@@ -229,7 +229,7 @@ impl<M: Machine> Node<M> {
     /// It answers nothing where the budget is used up, and where the way to an item over the first inputs isn't straight: at a
     /// node that declines an item, an ending, a fault, or want of memory. Then the moves made stand, and [`Node::drive`] goes
     /// on from there.
-    #[inline]
+    #[inline(always)]
     pub fn fetch<O: Ops<Item = M::Item>>(
         &mut self,
         alloc: Global,
