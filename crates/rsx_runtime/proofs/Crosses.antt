@@ -16,7 +16,7 @@ use Rattle.rsx_region.proofs.inlet.Inlet.TheSendSync as Inlet
 use Rattle.rsx_region.specs.contracts.region.Region as Region
 use Rattle.rsx_runtime.specs.contracts.live.Live as Live
 
-region : (N T : RattleType) → IsSend N → IsSend T → IsSend (Region.the_row N T)
+pub region : (N T : RattleType) → IsSend N → IsSend T → IsSend (Region.the_row N T)
 region N T n t = search (sendable, crosses, Inlet.the_field_send, Up.the_field_send, Inputs.crosses) depth 60 fits 100000
 
 pub live : (N T O : RattleType) (nodes : Nodes N.Denot T.Denot) (machine : Machine N.Denot T.Denot) (ops : Ops O.Denot T.Denot) (clone : Clone O.Denot) →

@@ -5,17 +5,10 @@ use Rattle.std.proofs.Crossing.{crosses}
 use Rattle.rsx_gate.below.atomic_table.proofs.shared.Seat.TheSendSync as Seat
 use Rattle.rsx_gate.specs.Machine.{all_parts}
 use Rattle.rsx_gate.specs.Seats.{IsSeatOf}
-use Rattle.rsx_link.proofs.up.Up.TheSendSync as Up
-use Rattle.rsx_region.proofs.inlet.Inlet.TheSendSync as Inlet
-use Rattle.rsx_region.specs.contracts.region.Region as Region
-use Rattle.rsx_tree.proofs.inputs.Inputs.TheLaws.TheKnot as Inputs
-use Rattle.rsx_runtime.proofs.Crosses.{live}
+use Rattle.rsx_runtime.proofs.Crosses.{live, region}
 use Rattle.rsx_runtime.proofs.Seated.{gates_at, same_there, zip_kept}
 use Rattle.rsx_live.proofs.Crosses.{tree_node}
 use Rattle.rsx_live.proofs.serving.serve_live.Goals as goal
-
-region : (N T : RattleType) → IsSend N → IsSend T → IsSend (Region.the_row N T)
-region N T n t = search (sendable, crosses, Inlet.the_field_send, Up.the_field_send, Inputs.crosses) depth 60 fits 100000
 
 pub serve_seats-requires-send-S : goal.serve_seats-requires-send-S
 serve_seats-requires-send-S g c κs within =
