@@ -19,7 +19,9 @@ use Rattle.rsx_tree.specs.declared.inputs.Inputs.{Inputs, End, More'}
 use Rattle.rsx_tree.specs.declared.look.NodeMove.{NodeMove}
 use Rattle.rsx_tree.specs.declared.look.NodeMove.TheVariants.{Ask, Send, Pick, Row}
 use Rattle.rsx_tree.specs.declared.node.Node.{Node}
-use Rattle.rsx_pipe.specs.Part.{IsAsk, IsEffect, Part, all_edges, wanted}
+use Rattle.rsx_tree.proofs.Runs.{leads_keep}
+use Rattle.rsx_pipe.specs.Fetched.{IsWorked}
+use Rattle.rsx_pipe.specs.Part.{IsAsk, IsEffect, IsMovedOver, Part, all_edges, no_room, wanted}
 use Rattle.rsx_rooted.specs.Rooted.{IsTreeSent}
 use Rattle.rsx_region.proofs.EdgePlaces.{both}
 use Rattle.rsx_region.specs.Open.{WasClear, is_clear, is_live_over, is_open_over, is_row_clear, is_row_live, is_row_open}
@@ -284,6 +286,13 @@ effect_clear b m (Send n) old new k = by_test (nat_eq n 0) k.tree
     by_test false x = sent_clear b m old.tree (n - 1) new.tree x.0
 effect_clear b m (Pick n input) old new k = stepped_clear b old.tree (edge_view old.root) n new.tree k.1.tree.over
 effect_clear b m (Row n) old new k = stepped_clear b old.tree (edge_view old.root) n new.tree k.1.tree.over
+
+-- so many moves inside the part
+pub worked_clear : {M T : Type 0} (b : Machine M T) (m : Meaning T) (n : ℕ) (old new : Part M) → IsWorked b m n old new → WasClear b old.tree new.tree
+worked_clear {M} {T} b m n old new k = leads_keep (IsMovedOver b no_room m) (λ (y : Part M × Unit {0}). WasClear b old.tree y.0.tree) on (old, tt) (new, tt) k.moves.labels k.moves.run (λ at c. c)
+  where
+    on : (y z : Part M × Unit {0}) (out : List (Signal T)) → IsMovedOver b no_room m y out z → WasClear b old.tree y.0.tree → WasClear b old.tree z.0.tree
+    on y z out w h = clear_then b old.tree y.0.tree z.0.tree h (effect_clear b m w.move y.0 z.0 (subst (λ o. IsEffect b m w.move y.0 o z.0) (sym w.queued) w.effect))
 
 -- ---- both at once
 

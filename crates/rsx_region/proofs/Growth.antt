@@ -21,8 +21,10 @@ use Rattle.rsx_tree.specs.declared.look.NodeMove.{NodeMove}
 use Rattle.rsx_tree.specs.declared.look.NodeMove.TheVariants.{Ask, Send, Pick, Row}
 use Rattle.rsx_tree.specs.declared.node.Node.{Node}
 use Rattle.rsx_rooted.specs.Tree.{edges_after, want_in}
-use Rattle.rsx_pipe.specs.Feeding.{IsMadeInside, inside_enabled}
-use Rattle.rsx_pipe.specs.Part.{IsMade, Part, all_edges, receiver_ended}
+use Rattle.rsx_tree.proofs.Runs.{leads_keep}
+use Rattle.rsx_pipe.specs.Feeding.{inside_enabled}
+use Rattle.rsx_pipe.specs.Fetched.{IsWorked}
+use Rattle.rsx_pipe.specs.Part.{IsEffect, IsMade, IsMovedOver, Part, all_edges, no_room, receiver_ended}
 use Rattle.rsx_link.specs.declared.cancel.CancelSeat.{CancelSeat}
 use Rattle.rsx_link.specs.declared.down.Down.{Down}
 use Rattle.rsx_region.specs.Inlet.{LinkStands}
@@ -149,28 +151,37 @@ grow_below p p' es root is grow =
 
 -- ---- a move inside
 
-pub inside_grows : {M T : Type 0} (b : Machine M T) (m : Meaning T) (move : NodeMove) (p p' : Part M) → inside_enabled b m p move ≡ true → IsMadeInside b m move p p' → AllGrow (all_edges p) (all_edges p')
-inside_grows b m (Ask zero) p p' can k = cc
-inside_grows b m (Ask (suc n)) p p' can k =
+effect_grows : {M T : Type 0} (b : Machine M T) (m : Meaning T) (move : NodeMove) (p p' : Part M) → inside_enabled b m p move ≡ true → IsEffect b m move p [] p' → AllGrow (all_edges p) (all_edges p')
+effect_grows b m (Ask zero) p p' can k = cc
+effect_grows b m (Ask (suc n)) p p' can k =
     let o = place_of p.tree (suc n - 1) p.root.demand.asked p.root.demand.sent in
     let may : can_ask_in b o ≡ true = sym (chosen_second (nat_eq (suc n) 0) false (can_ask_in b o) (not_zero (suc n) (above n))) ∙ can in
     let f = asked_up_to (want_in b o) in
-    let is : all_edges p' ≡ changed_at f (suc n) (all_edges p) = k.effect.1.edges ∙ ap (λ w. changed_at (asked_up_to w) (suc n) (all_edges p)) (chosen_second (nat_eq (suc n) 0) p.root.demand.asked (want_in b o) (not_zero (suc n) (above n))) in
+    let is : all_edges p' ≡ changed_at f (suc n) (all_edges p) = k.1.edges ∙ ap (λ w. changed_at (asked_up_to w) (suc n) (all_edges p)) (chosen_second (nat_eq (suc n) 0) p.root.demand.asked (want_in b o) (not_zero (suc n) (above n))) in
     let A : List EdgeView → Type 0 = λ l. AllGrow (all_edges p) l in
     subst A (sym is) (grow_changed f (suc n) (all_edges p) (λ e get. place_grows b p.tree.machine 0 p.root.demand.asked p.root.demand.sent p.tree.inputs (suc n - 1) o refl may e (ap (slice_get (edges p.tree.inputs)) (sym (less n)) ∙ get)))
-inside_grows b m (Send zero) p p' can k = cc
-inside_grows b m (Send (suc n)) p p' can k =
-    let x = k.effect in
+effect_grows b m (Send zero) p p' can k = cc
+effect_grows b m (Send (suc n)) p p' can k =
     let ended = receiver_ended b p' (suc n) in
-    let es = edges_after ended x.front p.tree (suc n - 1) in
-    let is : all_edges p' ≡ edge_view p.root ∷ es = x.edges ∙ chosen_second (nat_eq (suc n) 0) (passed (edge_view p.root) x.front ∷ edges p.tree.inputs) (edge_view p.root ∷ es) (not_zero (suc n) (above n)) in
+    let es = edges_after ended k.front p.tree (suc n - 1) in
+    let is : all_edges p' ≡ edge_view p.root ∷ es = k.edges ∙ chosen_second (nat_eq (suc n) 0) (passed (edge_view p.root) k.front ∷ edges p.tree.inputs) (edge_view p.root ∷ es) (not_zero (suc n) (above n)) in
     let A : List EdgeView → Type 0 = λ l. AllGrow (all_edges p) l in
-    subst A (sym is) (grows_same (edge_view p.root), grow_closed_if (ended && is_own p.tree.inputs (suc n - 1)) (edges p.tree.inputs) (sent_edges ended x.front p.tree.inputs (suc n - 1)) (grow_sent ended x.front p.tree.inputs (suc n - 1)))
-inside_grows b m (Pick n input) p p' can k = let x = k.effect.1 in let ended = ended_there b (station_of p'.tree (edge_view p.root) n) in grow_below p p' (stepped_after ended p.tree n) x.root x.tree.edges (grow_after ended p.tree n)
-inside_grows b m (Row n) p p' can k = let x = k.effect.1 in let ended = ended_there b (station_of p'.tree (edge_view p.root) n) in grow_below p p' (stepped_after ended p.tree n) x.root x.tree.edges (grow_after ended p.tree n)
+    subst A (sym is) (grows_same (edge_view p.root), grow_closed_if (ended && is_own p.tree.inputs (suc n - 1)) (edges p.tree.inputs) (sent_edges ended k.front p.tree.inputs (suc n - 1)) (grow_sent ended k.front p.tree.inputs (suc n - 1)))
+effect_grows b m (Pick n input) p p' can k = let x = k.1 in let ended = ended_there b (station_of p'.tree (edge_view p.root) n) in grow_below p p' (stepped_after ended p.tree n) x.root x.tree.edges (grow_after ended p.tree n)
+effect_grows b m (Row n) p p' can k = let x = k.1 in let ended = ended_there b (station_of p'.tree (edge_view p.root) n) in grow_below p p' (stepped_after ended p.tree n) x.root x.tree.edges (grow_after ended p.tree n)
+
+-- so many moves inside the part
+worked_grows : {M T : Type 0} (b : Machine M T) (m : Meaning T) (n : ℕ) (p p' : Part M) → IsWorked b m n p p' → AllGrow (all_edges p) (all_edges p')
+worked_grows {M} {T} b m n p p' k = leads_keep (IsMovedOver b no_room m) (λ (y : Part M × Unit {0}). AllGrow (all_edges p) (all_edges y.0)) on (p, tt) (p', tt) k.moves.labels k.moves.run (all_grow_same (all_edges p))
+  where
+    on : (y z : Part M × Unit {0}) (out : List (Signal T)) → IsMovedOver b no_room m y out z → AllGrow (all_edges p) (all_edges y.0) → AllGrow (all_edges p) (all_edges z.0)
+    on y z out w h = all_grow_then (all_edges p) (all_edges y.0) (all_edges z.0) h (effect_grows b m w.move y.0 z.0 w.enabled (subst (λ o. IsEffect b m w.move y.0 o z.0) (sym w.queued) w.effect))
 
 pub link_worked : {M T : Type 0} (b : Machine M T) (m : Meaning T) (taken : List (Stream T)) (move : NodeMove) (p p' : Part M) (h : ℕ) (d : Down T) (c : CancelSeat) (out : List (Signal T)) → inside_enabled b m p move ≡ true → IsMade b m move p out p' → [] ≡ [] ++ out → LinkStands b taken p h d c → LinkStands b taken p' h d c
 link_worked {M} {T} b m taken move p p' h d c out can made none st =
     let I : List (Signal T) → Type 0 = λ o. IsMade b m move p o p' in
     let k = subst I (sym none) made in
-    kept_on b taken p p' h d c k.alike.2 (inside_grows b m move p p' can k) st
+    kept_on b taken p p' h d c k.alike.2 (effect_grows b m move p p' can k.effect) st
+
+pub link_many : {M T : Type 0} (b : Machine M T) (m : Meaning T) (taken : List (Stream T)) (n : ℕ) (p p' : Part M) (h : ℕ) (d : Down T) (c : CancelSeat) → IsWorked b m n p p' → LinkStands b taken p h d c → LinkStands b taken p' h d c
+link_many b m taken n p p' h d c k st = kept_on b taken p p' h d c k.alike.2 (worked_grows b m n p p' k) st

@@ -4,6 +4,8 @@ use Rattle.std.proofs.lemmas.Bool.Decides.{nat_tests}
 use Rattle.rsx_demand.specs.declared.TheConstants.{UNBOUNDED}
 use Rattle.rsx_sources.specs.Prelude.{Meaning, Stream, Signal, Next, Complete, Error, Reading, ends_input, front_of}
 use Rattle.rsx_sources.specs.declared.machine.Machine.{Ghosts as Machine}
+use Rattle.rsx_tree.specs.Allocates.{IsAlike}
+use Rattle.rsx_tree.specs.Chosen.{IsChosen}
 use Rattle.rsx_tree.specs.Edges.{EdgeView, can_pass, edge_view, is_live, passed}
 use Rattle.rsx_tree.specs.Reads.{AllGoOn, GoesOn, readings}
 use Rattle.rsx_tree.specs.declared.edge.EdgeState.{EdgeState}
@@ -14,7 +16,8 @@ use Rattle.rsx_tree.proofs.Shut.{pass_live}
 use Rattle.rsx_rooted.proofs.Signals.{IsUnended-more}
 use Rattle.rsx_rooted.proofs.Moves.{flows_chosen, flows_sent}
 use Rattle.rsx_rooted.specs.Local.{Begins}
-use Rattle.rsx_pipe.specs.Feeding.{IsMadeInside, IsSentOut}
+use Rattle.rsx_pipe.specs.Feeding.{IsSentOut}
+use Rattle.rsx_pipe.specs.Fetched.{IsWorked}
 use Rattle.rsx_pipe.specs.Output.{IsUnended, counts_in}
 use Rattle.rsx_pipe.specs.Part.{IsMade, Part}
 use Rattle.rsx_pipe.specs.Tree.{IsBalanced, IsBalancedAfter, IsLetGo}
@@ -22,7 +25,8 @@ use Rattle.rsx_link.specs.Ends.{MaySend, carried_up, sent_signals, up_steps}
 use Rattle.rsx_link.specs.Signals.{items_in}
 use Rattle.rsx_link.specs.Steps.{flags_of, has_cancel, has_refusal, seen_of}
 use Rattle.rsx_link.specs.declared.up.Up.{Up}
-use Rattle.rsx_region.proofs.ClearBefore.{clear_then, effect_clear, item_clear}
+use Rattle.rsx_region.proofs.ClearBefore.{clear_then, effect_clear, item_clear, worked_clear}
+use Rattle.rsx_region.specs.Open.{WasClear}
 use Rattle.rsx_region.specs.Piece.{GoesOn as PartGoesOn, IsInStep, PieceStands}
 
 -- ---- tests
@@ -84,6 +88,10 @@ stands_same b m taken old queued p u u' h steps carried sent = record {
 }
 
 -- ---- a signal went over the root edge, into the link
+
+-- a signal was sent behind what had been sent, after a look at the room that there is
+pub sent_behind : {T : Type 0} (u u' u'' : Up T) (s : Signal T) → sent_signals u' ≡ sent_signals u → sent_signals u'' ≡ sent_signals u' ++ s ∷ [] → sent_signals u'' ≡ sent_signals u ++ s ∷ []
+sent_behind u u' u'' s same sent = sent ∙ ap (λ l. l ++ s ∷ []) same
 
 -- an item that can go over the root edge may be sent into the link
 pub may_send : {M T : Type 0} (p : Part M) (u : Up T) (s : Signal T) → IsInStep p u → can_pass (edge_view p.root) (front_of s) ≡ true → MaySend u s
@@ -182,14 +190,15 @@ stands_sent {M} b m taken old queued p p' u u' s h k steps carried sent =
       closed = λ c. absurd (passed_open (edge_view p.root) s live (sym state ∙ c));
     }
 
--- ---- a move inside
+-- ---- moves inside
 
-pub in_step_made : {M T : Type 0} (b : Machine M T) (m : Meaning T) (step : NodeMove) (p p' : Part M) (u : Up T) → IsInStep p u → IsMadeInside b m step p p' → IsInStep p' u
-in_step_made b m step p p' u i k = record { asked = ap (λ e. e.demand.asked) (k.inside refl) ∙ i.asked; sent = ap (λ e. e.demand.sent) (k.inside refl) ∙ i.sent }
+in_step_root : {M T : Type 0} (p p' : Part M) (u : Up T) → p'.root ≡ p.root → IsInStep p u → IsInStep p' u
+in_step_root p p' u root i = record { asked = ap (λ e. e.demand.asked) root ∙ i.asked; sent = ap (λ e. e.demand.sent) root ∙ i.sent }
 
-pub stands_made : {M T : Type 0} (b : Machine M T) (m : Meaning T) (taken : List (Stream T)) (old : Node M) (queued : List (Signal T)) (step : NodeMove) (p p' : Part M) (u : Up T) → p.root.state ≡ Live → PieceStands b m taken old queued p u → IsMadeInside b m step p p' → PieceStands b m taken old queued p' u
-stands_made b m taken old queued step p p' u live h k =
-    let root = k.inside refl in
+-- what such moves leave as it is
+stands_inside : {M T : Type 0} (b : Machine M T) (m : Meaning T) (taken : List (Stream T)) (old : Node M) (queued : List (Signal T)) (p p' : Part M) (u : Up T) → p.root.state ≡ Live → PieceStands b m taken old queued p u →
+    p'.root ≡ p.root → IsChosen b m p.tree p'.tree → ((sent : ℕ) → IsBalanced b p.tree sent → IsBalanced b p'.tree sent) → IsAlike b p.tree p'.tree → WasClear b p.tree p'.tree → PieceStands b m taken old queued p' u
+stands_inside b m taken old queued p p' u live h root chosen balance alike clear =
     let was = h.live live in
     let R : List (Option Reading) → Type 0 = λ l. AllGoOn (readings b old) l in
     let C : ℕ → Type 0 = λ c. IsBalanced b p'.tree c in
@@ -197,15 +206,15 @@ stands_made b m taken old queued step p p' u live h k =
     record {
       out = h.out;
       sent = h.sent;
-      flow = flows_chosen b m (Begins taken) old p.tree p'.tree h.out h.flow (k.chosen refl);
-      step = in_step_made b m step p p' u h.step k;
-      reading = subst R (sym k.alike.2) h.reading;
-      crosses = k.alike.3 ∙ h.crosses;
+      flow = flows_chosen b m (Begins taken) old p.tree p'.tree h.out h.flow chosen;
+      step = in_step_root p p' u root h.step;
+      reading = subst R (sym alike.2) h.reading;
+      crosses = alike.3 ∙ h.crosses;
       live = λ _. record {
         unended = was.unended;
-        balance = λ before all h. subst C (ap (λ e. e.demand.sent) (sym root)) (k.balance refl p.root.demand.sent (was.balance before (all ∙ ap (λ e. e.demand.sent) root) h));
-        reads = k.alike.1 (counts_in taken) was.reads;
-        clear = clear_then b old p.tree p'.tree was.clear (effect_clear b m step p p' k.effect);
+        balance = λ before all h. subst C (ap (λ e. e.demand.sent) (sym root)) (balance p.root.demand.sent (was.balance before (all ∙ ap (λ e. e.demand.sent) root) h));
+        reads = alike.1 (counts_in taken) was.reads;
+        clear = clear_then b old p.tree p'.tree was.clear clear;
       };
       ended = λ e. let s = still in cc;
       closed = λ e. let s = still in cc;
@@ -215,4 +224,14 @@ stands_made b m taken old queued step p p' u live h k =
 pub stands_made_into : {M T : Type 0} (b : Machine M T) (m : Meaning T) (taken : List (Stream T)) (old : Node M) (queued : List (Signal T)) (step : NodeMove) (p p' : Part M) (u : Up T) (out : List (Signal T)) → p.root.state ≡ Live → PieceStands b m taken old queued p u → IsMade b m step p out p' → [] ≡ [] ++ out → PieceStands b m taken old queued p' u
 stands_made_into {M} {T} b m taken old queued step p p' u out live h made none =
     let I : List (Signal T) → Type 0 = λ o. IsMade b m step p o p' in
-    stands_made b m taken old queued step p p' u live h (subst I (sym none) made)
+    let k = subst I (sym none) made in
+    stands_inside b m taken old queued p p' u live h (k.inside refl) (k.chosen refl) (k.balance refl) k.alike (effect_clear b m step p p' k.effect)
+
+-- so many moves
+pub in_step_many : {M T : Type 0} (b : Machine M T) (m : Meaning T) (n : ℕ) (p p' : Part M) (u : Up T) → IsInStep p u → IsWorked b m n p p' → IsInStep p' u
+in_step_many b m n p p' u i k = in_step_root p p' u (k.inside (sym k.queued)) i
+
+pub stands_many : {M T : Type 0} (b : Machine M T) (m : Meaning T) (taken : List (Stream T)) (old : Node M) (queued : List (Signal T)) (n : ℕ) (p p' : Part M) (u : Up T) → p.root.state ≡ Live → PieceStands b m taken old queued p u → IsWorked b m n p p' → PieceStands b m taken old queued p' u
+stands_many b m taken old queued n p p' u live h k =
+    let none = sym k.queued in
+    stands_inside b m taken old queued p p' u live h (k.inside none) (k.chosen none) (k.balance none) k.alike (worked_clear b m n p p' k)

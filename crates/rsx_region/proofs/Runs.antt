@@ -1,12 +1,11 @@
 -- Steps of a piece, one after the other.
-use Rattle.std.proofs.Common.{◌≡◌, ℕ, ◌+◌, ◌≤◌, Bool, true, false, cond, List, [], ◌∷◌, ◌++◌, refl, ap, sym, ◌∙◌, arith, Option, Some, None, Ok}
+use Rattle.std.proofs.Common.{◌≡◌, ℕ, ◌+◌, ◌≤◌, Bool, true, false, cond, List, [], ◌∷◌, ◌++◌, refl, sym, ◌∙◌, arith}
 use mir.Val.{bool_byte as from_bool}
 use Rattle.rsx_sources.specs.Prelude.{Meaning}
 use Rattle.rsx_sources.specs.declared.machine.Machine.{Ghosts as Machine}
-use Rattle.rsx_tree.specs.declared.look.NodeMove.{NodeMove}
 use Rattle.rsx_tree.proofs.Runs.{leads_on}
 use Rattle.rsx_link.specs.declared.link.Link.{Link}
-use Rattle.rsx_region.specs.Steps.{Goes, IsStep, done, moves_in, move_count, pops_in, pop_count, was_made}
+use Rattle.rsx_region.specs.Steps.{Goes, IsStep, moves_in, move_count, pops_in, pop_count}
 use Rattle.rsx_region.specs.declared.piece.Piece.{Piece}
 use Rattle.rsx_region.specs.declared.step.Step.{Step}
 
@@ -58,10 +57,9 @@ pub none_of : (n k : ℕ) (f : Bool) → n + k ≡ 0 → k ≡ cond f 1 0 → f 
 none_of n k true h e = absurd (omega (arith, h, e))
 none_of n k false h e = refl
 
--- a move was named, so one was made
-pub one_made : (E : Type 0) (o : Option NodeMove) (made : NodeMove) (k x : ℕ) → o ≡ Some made → x ≡ 1 + k → done (was_made {E = E} (Ok o)) + k ≡ x
-one_made E (Some i) made k x is e = sym e
-one_made E None made k x is e = cc
+pub one_made : (f : Bool) (k x : ℕ) → f ≡ true → x ≡ 1 + k → cond f 1 0 + k ≡ x
+one_made true k x is e = sym e
+one_made false k x is e = cc
 
 pub byte_cond : (f : Bool) → from_bool f ≡ cond f 1 0
 byte_cond true = refl

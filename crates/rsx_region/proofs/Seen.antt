@@ -20,7 +20,7 @@ use Rattle.rsx_region.specs.declared.piece.Incoming.{Incoming}
 use Rattle.rsx_region.specs.declared.piece.Piece.{Piece}
 use Rattle.rsx_region.proofs.Lists.{map_same}
 use Rattle.rsx_region.specs.declared.step.Step.{Step}
-use Rattle.rsx_region.specs.declared.step.Step.TheVariants.{Look, Ask, Pop, Move, Try}
+use Rattle.rsx_region.specs.declared.step.Step.TheVariants.{Look, Ask, Pop, Move, Many, Try}
 
 abbrev pub Later : {M T : Type 0} → Piece M T → Piece M T → Type 0
 Later p q = (more : List LinkStep) × (up_steps q.up ≡ more ++ up_steps p.up)
@@ -30,6 +30,7 @@ later_by b m links p Look q h = (SeeFlags h.looked.looked.flags ∷ SeeAsked h.f
 later_by b m links p Ask q h = ([], ap up_steps h.changed.up)
 later_by b m links p Pop q h = ([], ap up_steps h.changed.up)
 later_by b m links p Move q h = ([], h.looks)
+later_by b m links p (Many n) q h = ([], h.looks)
 later_by b m links p Try q h = ([], h.looks)
 
 later_then : {M T : Type 0} (p q r : Piece M T) → Later p q → Later q r → Later p r
@@ -79,6 +80,7 @@ dead_step b m links p Ask q n h =
     record { part = h.part; sent = ap sent_signals h.changed.up; came = ap (map came_of) h.changed.put ∙ map_same came_of p.inlets.items h.at h.was h.is h.changed.there first }
 dead_step b m links p Pop q n h = absurd (n (read_live b h.was.inlet.hub p.part h.popped.reader).0)
 dead_step b m links p Move q n h = absurd (n h.live)
+dead_step b m links p (Many k) q n h = absurd (n h.live)
 dead_step b m links p Try q n h = record { part = h.part; sent = h.sent; came = came_shown p.inlets.items q.inlets.items h.ins }
 
 dead_all : {M T : Type 0} (b : Machine M T) (m : Meaning T) (links : List (Link T)) (p : Piece M T) (ls : List Step) (q : Piece M T) → (p.part.root.state ≡ Live → ⊥) → Leads (IsStep b m links) p ls q → HasRested p q

@@ -1,7 +1,7 @@
 -- The single steps of a piece.
-use Rattle.std.proofs.Common.{◌≡◌, inl, inr, ℕ, ◌&&◌, nat_lt, if◌then◌else◌, Bool, true, false, List, map, refl, sym, ap, subst, Option, Some, None, Result, Ok, Err, slice_get}
+use Rattle.std.proofs.Common.{◌≡◌, ◌⊎◌, inl, inr, ℕ, ◌&&◌, nat_lt, if◌then◌else◌, Bool, true, false, List, map, refl, sym, ap, ◌∙◌, subst, Option, Some, None, Result, Ok, Err, slice_get}
 use Rattle.std.specs.Prelude.{IfNone, IfOk, IfSome, OnErr}
-use Rattle.rsx_sources.specs.Prelude.{Meaning, Signal, front_of}
+use Rattle.rsx_sources.specs.Prelude.{Meaning, Next, Signal, front_of}
 use Rattle.rsx_sources.specs.declared.machine.Front.{Front}
 use Rattle.rsx_sources.specs.declared.machine.Front.TheVariants.{Item, Completion, Failure}
 use Rattle.rsx_sources.specs.declared.machine.Machine.{Ghosts as Machine}
@@ -13,18 +13,18 @@ use Rattle.rsx_rooted.specs.Feeding.{carried}
 use Rattle.rsx_rooted.specs.Tree.{offers}
 use Rattle.rsx_pipe.specs.Part.{Part}
 use Rattle.rsx_pipe.specs.Published.{reader_edge}
-use Rattle.rsx_link.specs.Ends.{SameUp, carried_up, received_signals, sent_signals, up_steps}
+use Rattle.rsx_link.specs.Ends.{SameUp, carried_up, received_signals, sent_signals}
 use Rattle.rsx_link.specs.declared.link.Link.{Link}
 use Rattle.rsx_link.specs.declared.up.Found.{Found}
 use Rattle.rsx_link.specs.declared.up.Up.{Up}
-use Rattle.rsx_region.specs.Moves.{HasKept, HasLeft, HasMoved, HasPopped, HasSent, HasStepped, IsAskedFor, IsLooked, IsStill, KeepsInlet, SameInlet}
+use Rattle.rsx_region.specs.Moves.{HasLeft, HasPopped, HasPulled, HasStepped, IsAskedFor, IsLooked, IsStill, KeepsInlet, SameInlet}
 use Rattle.rsx_region.specs.Serving.{HasLeftOne, HasPassedOn, HasStayed, IsPassedOn}
 use Rattle.rsx_region.specs.Steps.{Goes, HasTried, OneChanged, SameInlets, done, shown}
 use Rattle.rsx_region.specs.declared.piece.Incoming.{Incoming}
 use Rattle.rsx_region.specs.declared.piece.Piece.{Piece}
-use Rattle.rsx_region.specs.declared.step.Step.TheVariants.{Look, Ask, Pop, Move, Try}
+use Rattle.rsx_region.specs.declared.step.Step.TheVariants.{Look, Ask, Pop, Move, Many, Try}
 use Rattle.rsx_region.proofs.Rests.{cannot_pop, passed_on, shown_same, tried_none, tried_one}
-use Rattle.rsx_region.proofs.Runs.{goes_one}
+use Rattle.rsx_region.proofs.Runs.{goes_one, goes_then}
 
 pub looked_goes : {M T : Type 0} (b : Machine M T) (m : Meaning T) (links : List (Link T)) (p new : Piece M T) (l : Link T) (o : Option Found) → slice_get links p.link ≡ Some l → SameInlets p new →
     IfSome o (λ f. IsLooked b m l f p.part p.up new.part new.up) → IfSome o (λ f. p.part.root.state ≡ Live) → IfNone o ((p.part.root.state ≡ Live → ⊥) × (new.part ≡ p.part) × (new.up ≡ p.up)) → Goes b m links 0 0 p new
@@ -77,19 +77,26 @@ pub stepped_stayed : {M T E : Type 0} (b : Machine M T) (m : Meaning T) (p new :
 stepped_stayed b m p new l (Ok x) same up still = λ e. let h = still e in record { tried = tried_root l p new same up h.0 h.1; others = same; idle = h.2 }
 stepped_stayed b m p new l (Err e) same up still = tt
 
--- a Send over the root edge, which is live where a signal goes over it
-pub sent_goes : {M T E : Type 0} (b : Machine M T) (m : Meaning T) (links : List (Link T)) (p new : Piece M T) (l : Link T) (r : Result Bool E) → SameInlets p new → SameUp l p.up new.up →
-    IfOk r (λ x. x ≡ true → HasSent b m p.part p.up new.part new.up) → IfOk r (λ x. x ≡ false → HasKept b m p.part p.up new.part new.up) → OnErr r ((new.part ≡ p.part) × (sent_signals new.up ≡ sent_signals p.up)) → Goes b m links (done r) 0 p new
-sent_goes b m links p new l (Ok true) same up sent kept err = let h = sent refl in goes_one b m links Move 1 0 p new refl refl (record { live = pass_live (edge_view p.part.root) (front_of h.signal) h.out.can; stepped = inl h; looks = up.1; others = same })
-sent_goes b m links p new l (Ok false) same up sent kept err = let h = kept refl in goes_one b m links Try 0 0 p new refl refl (tried_root l p new same up h.part h.sent)
-sent_goes b m links p new l (Err e) same up sent kept err = goes_one b m links Try 0 0 p new refl refl (tried_root l p new same up err.0 err.1)
-
--- a named move inside, which is made only while the root edge is live
-pub moved_goes : {M T E : Type 0} (X : Type 0) (b : Machine M T) (m : Meaning T) (links : List (Link T)) (p new : Piece M T) (r : Result Bool E) → SameInlets p new → new.up ≡ p.up → IfOk r (λ x. x ≡ true → HasMoved b m p.part new.part) → IfOk r (λ x. x ≡ true → p.part.root.state ≡ Live) →
-    IfOk r (λ x. x ≡ false → (new.part ≡ p.part) × X) → OnErr r (new.part ≡ p.part) → Goes b m links (done r) 0 p new
-moved_goes X b m links p new (Ok true) same up moved live none err = goes_one b m links Move 1 0 p new refl refl (record { live = live refl; stepped = inr (moved refl, ap sent_signals up); looks = ap up_steps up; others = same })
-moved_goes X b m links p new (Ok false) same up moved live none err = let h = none refl in goes_one b m links Try 0 0 p new refl refl (record { part = h.0; link = same.0; sent = ap sent_signals up; looks = ap up_steps up; ins = ap (map shown) same.1 })
-moved_goes X b m links p new (Err e) same up moved live none err = goes_one b m links Try 0 0 p new refl refl (record { part = err; link = same.0; sent = ap sent_signals up; looks = ap up_steps up; ins = ap (map shown) same.1 })
+-- an item that was pulled through, or moves inside alone. A root edge over which an item goes is live, and was so before those moves
+pub pulled_goes : {M T : Type 0} (b : Machine M T) (m : Meaning T) (links : List (Link T)) (p new : Piece M T) (l : Link T) (n : ℕ) → SameInlets p new → SameUp l p.up new.up → HasPulled b m n p.part p.up new.part new.up →
+    ((p.part.root.state ≡ Live → ⊥) → (n ≡ 0) × (new.part ≡ p.part) × (sent_signals new.up ≡ sent_signals p.up)) → Goes b m links n 0 p new
+pulled_goes {M} {T} b m links p new l n same up (inl h) after =
+    let k = h.2 in
+    let mid : Piece M T = record { part = k.mid; link = p.link; up = p.up; inlets = p.inlets } in
+    let on : k.mid.root.state ≡ Live = pass_live (edge_view k.mid.root) Item k.out.can in
+    let live : p.part.root.state ≡ Live = ap (λ e. e.state) (sym (k.worked.inside (sym k.worked.queued))) ∙ on in
+    goes_then b m links h.0 0 1 0 n 0 p mid new h.1 refl
+    (goes_one b m links (Many h.0) h.0 0 p mid refl refl (record { live = live; worked = k.worked; sent = refl; looks = refl; others = (refl, refl) }))
+    (goes_one b m links Move 1 0 mid new refl refl (record { live = on; stepped = inl (record { signal = Next k.item; out = k.out; pushed = k.pushed }); looks = up.1; others = same }))
+pulled_goes b m links p new l n same up (inr h) after = elim (live_or p.part.root.state) [
+  | inl live ↦ goes_one b m links (Many n) n 0 p new refl refl (record { live = live; worked = h.0; sent = h.1; looks = up.1; others = same })
+  | inr dead ↦ let a = after dead in goes_one b m links Try n 0 p new (sym a.0) refl (tried_root l p new same up a.1 a.2)
+]
+  where
+    live_or : (s : EdgeState) → (s ≡ Live) ⊎ (s ≡ Live → ⊥)
+    live_or Live = inl refl
+    live_or Ended = inr (λ e. cc)
+    live_or Closed = inr (λ e. cc)
 
 -- ---- a piece whose root edge isn't live
 

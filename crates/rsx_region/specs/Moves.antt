@@ -1,7 +1,7 @@
 -- What each call of a piece changes.
-use Rattle.std.specs.Prelude.{◌≡◌, ◌≢◌, ◌⊎◌, ℕ, zero, suc, min, ◌<◌, ◌≤◌, Bool, true, false, ◌||◌, [], ◌∷◌, ◌++◌, map, Option, Some, None}
+use Rattle.std.specs.Prelude.{◌≡◌, ◌≢◌, ◌⊎◌, ℕ, zero, suc, ◌+◌, min, ◌<◌, ◌≤◌, Bool, true, false, ◌||◌, [], ◌∷◌, ◌++◌, map, Option, Some, None}
 use Rattle.rsx_demand.specs.declared.TheConstants.{UNBOUNDED}
-use Rattle.rsx_sources.specs.Prelude.{Meaning, Signal}
+use Rattle.rsx_sources.specs.Prelude.{Meaning, Next, Signal}
 use Rattle.rsx_sources.specs.declared.machine.Machine.{Ghosts as Machine}
 use Rattle.rsx_tree.specs.declared.edge.Edge.{Edge}
 use Rattle.rsx_tree.specs.declared.edge.EdgeState.TheVariants.{Live, Closed}
@@ -9,6 +9,7 @@ use Rattle.rsx_tree.specs.declared.look.NodeMove.{NodeMove}
 use Rattle.rsx_tree.specs.Edges.{closed_view, is_live}
 use Rattle.rsx_tree.specs.Tree.{IsKept, edges}
 use Rattle.rsx_pipe.specs.Feeding.{IsMadeInside, IsQuietInside, IsSentOut, inside_enabled, next_out}
+use Rattle.rsx_pipe.specs.Fetched.{IsWorked}
 use Rattle.rsx_pipe.specs.Part.{Part}
 use Rattle.rsx_pipe.specs.Published.{IsHanded, has_room_for, readers}
 use Rattle.rsx_link.specs.Ends.{HasSentNothing, IsDownOf, KeepsParts, Looks, SameDown, TakesNone, TakesOne, asked_total, cancels_of, carried_down, down_steps, free_slots, received_signals, sent_signals, up_steps}
@@ -64,6 +65,20 @@ IsStill b m old up new up' = (new ≡ old) × (sent_signals up' ≡ sent_signals
 abbrev pub IsServed : {M T : Type 0} → Machine M T → Meaning T → ℕ → Part M → Up T → Part M → Up T → Type 0
 IsServed b m zero old up new up' = (new ≡ old) × (sent_signals up' ≡ sent_signals up)
 IsServed {M} {T} b m (suc n) old up new up' = (mid : Part M) × (between : Up T) × IsServed b m n old up mid between × HasStepped b m mid between new up'
+
+-- ---- an item that is pulled through
+
+-- so many moves inside the part led to one whose root offered an item, and that went over the root edge, into the link
+pub record HasBrought {M T : Type 0} (b : Machine M T) (m : Meaning T) (inside : ℕ) (old : Part M) (up : Up T) (new : Part M) (up' : Up T) : Type 0 where
+  pub item : T
+  pub mid : Part M
+  pub worked : IsWorked b m inside old mid
+  pub out : IsSentOut b m mid (Next item) new
+  pub pushed : sent_signals up' ≡ sent_signals up ++ Next item ∷ []
+
+-- so many moves were made, the last of which sent an item; or no item came, and all were moves inside the part
+abbrev pub HasPulled : {M T : Type 0} → Machine M T → Meaning T → ℕ → Part M → Up T → Part M → Up T → Type 0
+HasPulled b m n old up new up' = ((inside : ℕ) × (inside + 1 ≡ n) × HasBrought b m inside old up new up') ⊎ (IsWorked b m n old new × (sent_signals up' ≡ sent_signals up))
 
 -- ---- a link that comes in
 

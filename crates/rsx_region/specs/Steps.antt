@@ -1,10 +1,10 @@
 -- What each step of a piece changes.
-use Rattle.std.specs.Prelude.{◌≡◌, ℕ, ◌+◌, Bool, true, false, cond, List, [], ◌∷◌, Option, Some, None, Result, Ok, Err, map, slice_get, slice_set}
+use Rattle.std.specs.Prelude.{◌≡◌, ℕ, ◌+◌, Bool, cond, List, [], ◌∷◌, Some, Result, Ok, Err, map, slice_get, slice_set}
 use Rattle.rsx_sources.specs.Prelude.{Meaning, Signal}
 use Rattle.rsx_sources.specs.declared.machine.Machine.{Ghosts as Machine}
 use Rattle.rsx_tree.specs.declared.edge.EdgeState.TheVariants.{Live}
-use Rattle.rsx_tree.specs.declared.look.NodeMove.{NodeMove}
 use Rattle.rsx_tree.specs.Runs.{Leads}
+use Rattle.rsx_pipe.specs.Fetched.{IsWorked}
 use Rattle.rsx_pipe.specs.Published.{reader_edge}
 use Rattle.rsx_link.specs.Ends.{carried_down, down_steps, received_signals, sent_signals, up_steps}
 use Rattle.rsx_link.specs.declared.cancel.CancelSeat.{CancelSeat}
@@ -15,7 +15,7 @@ use Rattle.rsx_region.specs.Moves.{HasPopped, HasStepped, IsAskedFor, IsLooked}
 use Rattle.rsx_region.specs.declared.piece.Incoming.{Incoming}
 use Rattle.rsx_region.specs.declared.piece.Piece.{Piece}
 use Rattle.rsx_region.specs.declared.step.Step.{Step}
-use Rattle.rsx_region.specs.declared.step.Step.TheVariants.{Look, Ask, Pop, Move, Try}
+use Rattle.rsx_region.specs.declared.step.Step.TheVariants.{Look, Ask, Pop, Move, Many, Try}
 
 -- how many of the steps are moves, and how many took a signal from a link
 abbrev pub move_count : Step → ℕ
@@ -23,6 +23,7 @@ move_count Look = 0
 move_count Ask = 0
 move_count Pop = 0
 move_count Move = 1
+move_count (Many n) = n
 move_count Try = 0
 
 abbrev pub pop_count : Step → ℕ
@@ -30,6 +31,7 @@ pop_count Look = 0
 pop_count Ask = 0
 pop_count Pop = 1
 pop_count Move = 0
+pop_count (Many n) = 0
 pop_count Try = 0
 
 abbrev pub moves_in : List Step → ℕ
@@ -44,12 +46,6 @@ pops_in (l ∷ ls) = pop_count l + pops_in ls
 abbrev pub done : {E : Type 0} → Result Bool E → ℕ
 done (Ok b) = cond b 1 0
 done (Err e) = 0
-
--- whether a move was made, where the answer names it
-abbrev pub was_made : {E : Type 0} → Result (Option NodeMove) E → Result Bool E
-was_made (Ok (Some move)) = Ok true
-was_made (Ok None) = Ok false
-was_made (Err e) = Err e
 
 -- what other threads see of a link that comes in, and what the piece took from it
 pub record Shown (T : Type 0) : Type 0 where
@@ -112,6 +108,14 @@ module _ {M T : Type 0} where
     pub looks : up_steps new.up ≡ up_steps old.up
     pub others : SameInlets old new
 
+  -- so many enabled moves inside the part were made, one after the other
+  pub record HasMadeMany (b : Machine M T) (m : Meaning T) (n : ℕ) (old new : Piece M T) : Type 0 where
+    pub live : old.part.root.state ≡ Live
+    pub worked : IsWorked b m n old.part new.part
+    pub sent : sent_signals new.up ≡ sent_signals old.up
+    pub looks : up_steps new.up ≡ up_steps old.up
+    pub others : SameInlets old new
+
   -- a queue was looked at: nothing changed but what an end knows of its queue
   pub record HasTried (old new : Piece M T) : Type 0 where
     pub part : new.part ≡ old.part
@@ -125,6 +129,7 @@ module _ {M T : Type 0} where
   IsStep b m links old Ask new = HasAsked b old new
   IsStep b m links old Pop new = HasTaken b old new
   IsStep b m links old Move new = HasMade b m old new
+  IsStep b m links old (Many n) new = HasMadeMany b m n old new
   IsStep b m links old Try new = HasTried old new
 
   -- steps lead from one to the other, of which so many are moves, and so many took a signal from a link

@@ -9,22 +9,20 @@ use crate::piece::Piece;
 use crate::serving::{Answer, Served, outcome};
 use rsx_link::Link;
 use rsx_pipe::Nodes;
-use rsx_types::{NoMemory, Ops};
+use rsx_types::Ops;
 use std::alloc::Global;
 
 impl<N: Nodes<Item = T>, T: Drop> Piece<N, T> {
-    /// Lets items go through the piece, one after the other, over this edge and those before it, until nothing goes on. No link that goes
-    /// out is looked at, and no request passed down, so nothing is said of what is left to do.
+    /// Lets items go through the piece, one after the other, until nothing goes on. No link that goes out is looked at, and no request
+    /// passed down, so nothing is said of what is left to do.
     ///
-    /// An item goes over this edge and over those before it, whose numbers are smaller: in a chain of nodes that is its way to the root,
-    /// which needs no search. Then it is sent into the link that goes out. A signal is taken from each link that comes in, and the next
-    /// item is tried over the same edges.
-    pub(crate) fn flow_over<O: Ops<Item = T>>(
+    /// An item is pulled through the whole part in one go, and sent into the link that goes out. Then a signal is taken from each link that
+    /// comes in, and so on.
+    pub(crate) fn flow<O: Ops<Item = T>>(
         &mut self,
         alloc: Global,
         ops: &O,
         links: &[Link<T>],
-        first: u32,
         budget: u32,
     ) -> Served
         requires { IsPieceOf links.now self.old }
@@ -37,7 +35,7 @@ impl<N: Nodes<Item = T>, T: Drop> Piece<N, T> {
         let mut moves = 0;
         let mut pops = 0;
         while moves + pops < budget {
-            let round = self.pass(alloc, ops, links, first, budget - moves - pops);
+            let round = self.pass(alloc, ops, links, budget - moves - pops);
             moves += round.moves;
             pops += round.pops;
             match round.answer {
@@ -53,13 +51,12 @@ impl<N: Nodes<Item = T>, T: Drop> Piece<N, T> {
         outcome(Answer::Budget, moves, pops)
     }
 
-    /// A Send over this edge and each before it, the last one into the root, then one over the root edge, and then a signal from each link.
+    /// An item into the link that goes out, where one comes, and then a signal from each link that comes in.
     fn pass<O: Ops<Item = T>>(
         &mut self,
         alloc: Global,
         ops: &O,
         links: &[Link<T>],
-        first: u32,
         budget: u32,
     ) -> Served
         requires { IsPieceOf links.now self.old }
@@ -69,71 +66,8 @@ impl<N: Nodes<Item = T>, T: Drop> Piece<N, T> {
         ensures budget { result.answer ≡ Answer.Budget → result.moves + result.pops ≡ budget }
         ensures stands { (n : ℕ) (opening : PieceSpec N T) → StandsSince N.Machine (O.meaning ops.now) n opening self.old → StandsSince N.Machine (O.meaning ops.now) n opening self.new }
     {
-        let sent = self.send_along(alloc, ops, links, first, budget);
-        match sent.answer {
-            Answer::Idle => {
-                let rest = self.send_and_pop(alloc, ops, links, budget - sent.moves);
-                outcome(rest.answer, sent.moves + rest.moves, rest.pops)
-            }
-            Answer::Budget | Answer::NoMemory => sent,
-        }
-    }
-
-    /// A Send over this edge and each before it inside the part, where it is enabled.
-    fn send_along<O: Ops<Item = T>>(
-        &mut self,
-        alloc: Global,
-        ops: &O,
-        links: &[Link<T>],
-        first: u32,
-        budget: u32,
-    ) -> Served
-        requires { IsPieceOf links.now self.old }
-        ensures ends { IsPieceOf links.now self.new }
-        ensures run { Goes N.Machine (O.meaning ops.now) links.now result.moves result.pops self.old self.new }
-        ensures most { result.moves + result.pops ≤ budget }
-        ensures budget { result.answer ≡ Answer.Budget → result.moves + result.pops ≡ budget }
-        ensures stands { (n : ℕ) (opening : PieceSpec N T) → StandsSince N.Machine (O.meaning ops.now) n opening self.old → StandsSince N.Machine (O.meaning ops.now) n opening self.new }
-        ensures pops { result.pops ≡ 0 }
-    {
-        let mut moves = 0;
-        for back in 0..first {
-            if moves == budget {
-                return outcome(Answer::Budget, moves, 0);
-            }
-            match self.send_inside(alloc, ops, links, first - back) {
-                Ok(sent) => moves += u32::from(sent),
-                Err(NoMemory) => return outcome(Answer::NoMemory, moves, 0),
-            }
-        }
-        outcome(Answer::Idle, moves, 0)
-    }
-
-    /// A Send over the root edge, where it is enabled, and a signal from each link.
-    fn send_and_pop<O: Ops<Item = T>>(
-        &mut self,
-        alloc: Global,
-        ops: &O,
-        links: &[Link<T>],
-        budget: u32,
-    ) -> Served
-        requires { IsPieceOf links.now self.old }
-        ensures ends { IsPieceOf links.now self.new }
-        ensures run { Goes N.Machine (O.meaning ops.now) links.now result.moves result.pops self.old self.new }
-        ensures most { result.moves + result.pops ≤ budget }
-        ensures budget { result.answer ≡ Answer.Budget → result.moves + result.pops ≡ budget }
-        ensures stands { (n : ℕ) (opening : PieceSpec N T) → StandsSince N.Machine (O.meaning ops.now) n opening self.old → StandsSince N.Machine (O.meaning ops.now) n opening self.new }
-    {
-        if budget == 0 {
-            return outcome(Answer::Budget, 0, 0);
-        }
-        match self.send_out(alloc, ops, links) {
-            Ok(sent) => {
-                let moves = u32::from(sent);
-                let popped = self.pop_each(links, budget - moves);
-                outcome(popped.answer, moves, popped.pops)
-            }
-            Err(NoMemory) => outcome(Answer::NoMemory, 0, 0),
-        }
+        let moves = self.pull(alloc, ops, links, budget);
+        let popped = self.pop_each(links, budget - moves);
+        outcome(popped.answer, moves, popped.pops)
     }
 }

@@ -8,8 +8,9 @@
 //!
 //! A call of [`outgoing`], [`part_steps`] and [`inlet`] is handed a part and the ends of its links one by one, and is one step of a
 //! piece: a look at the link that goes out, a move inside the part, a signal sent into the link, a signal taken from a link that
-//! comes in and handed on, and a request passed on down such a link. A [`Piece`] has its part with those ends, so that
-//! [`Piece::serve`] can do all that there is to do for it, within a budget, by such steps.
+//! comes in and handed on, and a request passed on down such a link; or it is many moves, as where an item is pulled through the part.
+//! A [`Piece`] has its part with those ends, so that [`Piece::serve`] can do all that there is to do for it, within a budget, by such
+//! steps.
 //!
 //! - [`cutting`]: [`Piece::cut`], by which a piece is cut in two.
 //! - [`flowing`]: items that go through a piece one after the other.
@@ -20,8 +21,8 @@
 //!   along the edges belong together through a cut and a join, and what the nodes have taken in; [`law::gives_back`], what a piece
 //!   gave whose ending is put back; [`law::cancels`], where a link is cancelled.
 //! - [`opening`]: [`Opening`], what a region began with.
-//! - [`outgoing`]: [`outgoing::look`], [`outgoing::work`] and [`outgoing::send`], which a piece does at its root, and
-//!   [`outgoing::work_at`], a move inside that is named.
+//! - [`outgoing`]: [`outgoing::look`], [`outgoing::work`] and [`outgoing::send`], which a piece does at its root, with
+//!   [`outgoing::work_at`], a move inside that is named, and [`outgoing::pull`], by which an item goes through the part in one go.
 //! - [`part_steps`]: [`part_steps::serve`], many moves of a part in a row, each as [`part_steps::step`] makes one.
 //! - [`piece`]: [`Piece`] and [`Incoming`].
 //! - [`region`]: [`Region`], the pieces of a region.

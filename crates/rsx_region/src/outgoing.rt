@@ -1,6 +1,6 @@
 //! What a piece does at its root, whose edge leads into a link.
 
-ghost use Rattle.std.specs.Prelude.{◌≡◌, ◌||◌, List, false, true, OnErr, IfOk, IfSome, IfNone};
+ghost use Rattle.std.specs.Prelude.{◌≡◌, ◌≤◌, ◌||◌, List, false, true, OnErr, IfOk, IfSome, IfNone};
 ghost use Rattle.rsx_types.specs.Meaning.{Meaning};
 ghost use Rattle.rsx_types.specs.Stream.{Stream};
 ghost use Rattle.rsx_types.specs.declared.signal.Signal.{Signal};
@@ -9,15 +9,14 @@ ghost use Rattle.rsx_pipe.specs.Feeding.{IsMadeInside, IsQuietInside, inside_ena
 ghost use Rattle.rsx_link.specs.Ends.{IsUpOf, SameUp, sent_signals};
 ghost use Rattle.rsx_link.specs.declared.up.Up.{Up as UpSpec};
 ghost use Rattle.rsx_region.specs.Inlet.{InletStands};
-ghost use Rattle.rsx_region.specs.Moves.{HasKept, HasMoved, HasSent, IsLooked};
+ghost use Rattle.rsx_region.specs.Moves.{HasKept, HasMoved, HasPulled, HasSent, IsLooked};
 ghost use Rattle.rsx_region.specs.Piece.{IsInStep, PieceStands};
-ghost use Rattle.rsx_region.specs.Steps.{was_made};
 ghost use Rattle.rsx_region.specs.declared.inlet.Inlet.{Inlet as InletSpec};
 
 use rsx_link::{Found, Link, Up};
 use rsx_pipe::{EdgeState, NoRoom, NodeMove, Nodes, Part};
 use rsx_sources::NotMade;
-use rsx_types::{NoMemory, Ops};
+use rsx_types::{NoMemory, Ops, Signal};
 use std::alloc::Global;
 
 /// Looks at the link that the root sends into: what is asked of the root rises to the total that was found, and where a flag was
@@ -81,35 +80,10 @@ pub fn work<N: Nodes<Item = O::Item>, O: Ops>(
         PieceStands N.Machine (O.meaning ops.now) taken old queued part.old up → PieceStands N.Machine (O.meaning ops.now) taken old queued part.new up }
     ensures inlets { (taken : List (Stream O.Item)) (i : InletSpec O.Item) → InletStands N.Machine taken part.old i → InletStands N.Machine taken part.new i }
 {
-    match work_first(alloc, ops, part) {
-        Ok(made) => Ok(made.is_some()),
-        Err(NoMemory) => Err(NoMemory),
-    }
-}
-
-/// The same, and answers the move that it made.
-pub(crate) fn work_first<N: Nodes<Item = O::Item>, O: Ops>(
-    alloc: Global,
-    ops: &O,
-    part: &mut Part<N>,
-) -> Result<Option<NodeMove>, NoMemory>
-    ensures moved { IfOk (was_made result) (λ b. b ≡ true → HasMoved N.Machine (O.meaning ops.now) part.old part.new) }
-    ensures none { IfOk (was_made result) (λ b. b ≡ false → (part.new ≡ part.old) × (part.old.root.state ≡ EdgeState.Live → IsQuietInside N.Machine (O.meaning ops.now) part.old)) }
-    ensures same { OnErr (was_made result) (part.new ≡ part.old) }
-    ensures after { (part.old.root.state ≡ EdgeState.Live → ⊥) → part.new ≡ part.old }
-    ensures step { (up : UpSpec O.Item) → IsInStep part.old up → IsInStep part.new up }
-    ensures stands { (taken : List (Stream O.Item)) (old : Node N) (queued : List (Signal O.Item)) (up : UpSpec O.Item) →
-        PieceStands N.Machine (O.meaning ops.now) taken old queued part.old up → PieceStands N.Machine (O.meaning ops.now) taken old queued part.new up }
-    ensures inlets { (taken : List (Stream O.Item)) (i : InletSpec O.Item) → InletStands N.Machine taken part.old i → InletStands N.Machine taken part.new i }
-{
     let Some(step) = part.first_enabled(&NoRoom) else {
-        return Ok(None);
+        return Ok(false);
     };
-    match work_at(alloc, ops, part, step) {
-        Ok(true) => Ok(Some(step)),
-        Ok(false) => Ok(None),
-        Err(NoMemory) => Err(NoMemory),
-    }
+    work_at(alloc, ops, part, step)
 }
 
 /// Makes this move inside the part, where it is enabled, and answers whether it did. Of a piece whose root edge isn't live nothing
@@ -179,5 +153,43 @@ pub fn send<N: Nodes<Item = O::Item>, O: Ops>(
         }
         Err(NotMade::NoMemory) => Err(NoMemory),
         Err(NotMade::NotEnabled) => Ok(false),
+    }
+}
+
+/// Pulls an item through the part, and sends it over the root edge, into the link: it makes moves inside the part until the root offers
+/// an item, and then the Send of that, as [`Part::fetch`] does. It answers how many moves it made, which are at most `budget`.
+///
+/// With no item the moves that it made stand, and nothing was sent. It looks for one only while the link has room. Of a piece whose root
+/// edge isn't live nothing changes, and nothing is sent.
+#[inline]
+pub fn pull<N: Nodes<Item = O::Item>, O: Ops>(
+    alloc: Global,
+    ops: &O,
+    part: &mut Part<N>,
+    up: &mut Up<O::Item>,
+    link: &Link<O::Item>,
+    budget: u32,
+) -> u32
+    requires end { IsUpOf link.now up.old }
+    requires step { IsInStep part.old up.old }
+    ensures end { SameUp link.now up.old up.new }
+    ensures step { IsInStep part.new up.new }
+    ensures pulled { HasPulled N.Machine (O.meaning ops.now) result part.old up.old part.new up.new }
+    ensures most { result ≤ budget }
+    ensures after { (part.old.root.state ≡ EdgeState.Live → ⊥) → (result ≡ 0) × (part.new ≡ part.old) × (sent_signals up.new ≡ sent_signals up.old) }
+    ensures stands { (taken : List (Stream O.Item)) (old : Node N) (queued : List (Signal O.Item)) →
+        PieceStands N.Machine (O.meaning ops.now) taken old queued part.old up.old → PieceStands N.Machine (O.meaning ops.now) taken old queued part.new up.new }
+    ensures inlets { (taken : List (Stream O.Item)) (i : InletSpec O.Item) → InletStands N.Machine taken part.old i → InletStands N.Machine taken part.new i }
+{
+    if !part.root_edge().is_live() || !up.has_room(link) {
+        return 0;
+    }
+    let mut left = budget;
+    match part.fetch(alloc, ops, &mut left) {
+        Some(item) => {
+            up.put(link, Signal::Next(item));
+            budget - left
+        }
+        None => budget - left,
     }
 }

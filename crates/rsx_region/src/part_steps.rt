@@ -8,12 +8,11 @@ ghost use Rattle.rsx_link.specs.Ends.{IsUpOf, SameUp, sent_signals};
 ghost use Rattle.rsx_region.specs.Inlet.{InletStands};
 ghost use Rattle.rsx_region.specs.Moves.{HasStepped, IsIdle, IsServed, IsStill};
 ghost use Rattle.rsx_region.specs.Piece.{IsInStep, PieceStands};
-ghost use Rattle.rsx_region.specs.Steps.{was_made};
 ghost use Rattle.rsx_region.specs.declared.inlet.Inlet.{Inlet as InletSpec};
 
-use crate::outgoing::{send, work, work_first};
+use crate::outgoing::{send, work};
 use rsx_link::{Link, Up};
-use rsx_pipe::{EdgeState, NodeMove, Nodes, Part};
+use rsx_pipe::{EdgeState, Nodes, Part};
 use rsx_types::{NoMemory, Ops};
 use std::alloc::Global;
 
@@ -44,35 +43,6 @@ pub fn step<N: Nodes<Item = O::Item>, O: Ops>(
     match send(alloc, ops, part, up, link) {
         Ok(true) => Ok(true),
         Ok(false) => work(alloc, ops, part),
-        Err(why) => Err(why),
-    }
-}
-
-/// Makes such a step, and answers which move it made, if there was one to make.
-///
-/// # Errors
-/// [`NoMemory`] where a growth was refused. Then no move was made.
-pub(crate) fn start<N: Nodes<Item = O::Item>, O: Ops>(
-    alloc: Global,
-    ops: &O,
-    part: &mut Part<N>,
-    up: &mut Up<O::Item>,
-    link: &Link<O::Item>,
-) -> Result<Option<NodeMove>, NoMemory>
-    requires end { IsUpOf link.now up.old }
-    requires step { IsInStep part.old up.old }
-    ensures end { SameUp link.now up.old up.new }
-    ensures step { IsInStep part.new up.new }
-    ensures made { IfOk (was_made result) (λ b. b ≡ true → HasStepped N.Machine (O.meaning ops.now) part.old up.old part.new up.new) }
-    ensures still { IfOk (was_made result) (λ b. b ≡ false → IsStill N.Machine (O.meaning ops.now) part.old up.old part.new up.new) }
-    ensures same { OnErr (was_made result) ((part.new ≡ part.old) × (sent_signals up.new ≡ sent_signals up.old)) }
-    ensures stands { (taken : List (Stream O.Item)) (old : Node N) (queued : List (Signal O.Item)) →
-        PieceStands N.Machine (O.meaning ops.now) taken old queued part.old up.old → PieceStands N.Machine (O.meaning ops.now) taken old queued part.new up.new }
-    ensures inlets { (taken : List (Stream O.Item)) (i : InletSpec O.Item) → InletStands N.Machine taken part.old i → InletStands N.Machine taken part.new i }
-{
-    match send(alloc, ops, part, up, link) {
-        Ok(true) => Ok(Some(NodeMove::Send(0))),
-        Ok(false) => work_first(alloc, ops, part),
         Err(why) => Err(why),
     }
 }

@@ -1,21 +1,21 @@
 //! A piece with the ends of its links, and its single steps.
 
-ghost use Rattle.std.specs.Prelude.{◌≡◌, ◌<◌, ℕ, List, [], false, Some, IfOk, ⊤, length, slice_get};
+ghost use Rattle.std.specs.Prelude.{◌≡◌, ◌<◌, ◌≤◌, ℕ, List, [], false, Some, IfOk, ⊤, length, slice_get};
 ghost use Rattle.rsx_types.specs.Meaning.{Meaning};
 ghost use Rattle.rsx_link.specs.Ends.{IsUpOf};
 ghost use Rattle.rsx_link.specs.declared.link.Link.{Link as LinkSpec};
 ghost use Rattle.rsx_tree.specs.Reads.{IsTreeReadAt};
 ghost use Rattle.rsx_region.specs.Piece.{IsInStep};
 ghost use Rattle.rsx_region.specs.Pieces.{IsAt, IsPieceOf, StandsSince};
-ghost use Rattle.rsx_region.specs.Steps.{Goes, done, was_made};
+ghost use Rattle.rsx_region.specs.Steps.{Goes, done};
 ghost use Rattle.rsx_region.specs.Serving.{HasLeftOne, HasPassedOn, HasSeen, HasStayed};
 ghost use Rattle.rsx_region.specs.declared.piece.Piece.{Piece as PieceSpec};
 
 use crate::inlet::Inlet;
-use crate::outgoing::{look, send, work_at};
-use crate::part_steps::start;
+use crate::outgoing::{look, pull};
+use crate::part_steps::step;
 use rsx_link::{Link, Up};
-use rsx_pipe::{EdgeState, NodeMove, Nodes, Part};
+use rsx_pipe::{EdgeState, Nodes, Part};
 use rsx_types::{NoMemory, Ops};
 use std::alloc::Global;
 
@@ -110,69 +110,46 @@ impl<N: Nodes<Item = T>, T: Drop> Piece<N, T> {
         incoming.inlet.pop(&mut self.part, link)
     }
 
-    /// Makes a move, where one is enabled, and answers which. Of a piece whose root edge isn't live nothing changes.
+    /// Makes a move, where one is enabled, and answers whether it did. Of a piece whose root edge isn't live nothing changes.
     ///
     /// # Errors
     /// [`NoMemory`] where a growth was refused. Then no move was made.
-    pub(crate) fn start<O: Ops<Item = T>>(
+    pub(crate) fn step<O: Ops<Item = T>>(
         &mut self,
         alloc: Global,
         ops: &O,
         links: &[Link<T>],
-    ) -> Result<Option<NodeMove>, NoMemory>
+    ) -> Result<bool, NoMemory>
         requires { IsPieceOf links.now self.old }
         ensures ends { IsPieceOf links.now self.new }
-        ensures run { Goes N.Machine (O.meaning ops.now) links.now (done (was_made result)) 0 self.old self.new }
+        ensures run { Goes N.Machine (O.meaning ops.now) links.now (done result) 0 self.old self.new }
         ensures stands { (n : ℕ) (opening : PieceSpec N T) → StandsSince N.Machine (O.meaning ops.now) n opening self.old → StandsSince N.Machine (O.meaning ops.now) n opening self.new }
-        ensures still { IfOk (was_made result) (λ b. b ≡ false → HasStayed N.Machine (O.meaning ops.now) self.old self.new) }
+        ensures still { IfOk result (λ b. b ≡ false → HasStayed N.Machine (O.meaning ops.now) self.old self.new) }
     {
         if !self.part.root_edge().is_live() {
-            return Ok(None);
+            return Ok(false);
         }
         let link = link_at(links, self.link);
-        start(alloc, ops, &mut self.part, &mut self.up, link)
+        step(alloc, ops, &mut self.part, &mut self.up, link)
     }
 
-    /// Makes the Send over the root edge, into the link that goes out, where it is enabled, and answers whether it did.
-    ///
-    /// # Errors
-    /// [`NoMemory`] where a growth was refused. Then it wasn't made.
+    /// Pulls an item through the part, into the link that goes out, and answers how many moves it made. With no item nothing is sent, and
+    /// it may have made moves inside the part.
     #[inline]
-    pub(crate) fn send_out<O: Ops<Item = T>>(
+    pub(crate) fn pull<O: Ops<Item = T>>(
         &mut self,
         alloc: Global,
         ops: &O,
         links: &[Link<T>],
-    ) -> Result<bool, NoMemory>
+        budget: u32,
+    ) -> u32
         requires { IsPieceOf links.now self.old }
         ensures ends { IsPieceOf links.now self.new }
-        ensures run { Goes N.Machine (O.meaning ops.now) links.now (done result) 0 self.old self.new }
+        ensures run { Goes N.Machine (O.meaning ops.now) links.now result 0 self.old self.new }
+        ensures most { result ≤ budget }
         ensures stands { (n : ℕ) (opening : PieceSpec N T) → StandsSince N.Machine (O.meaning ops.now) n opening self.old → StandsSince N.Machine (O.meaning ops.now) n opening self.new }
     {
         let link = link_at(links, self.link);
-        send(alloc, ops, &mut self.part, &mut self.up, link)
-    }
-
-    /// Makes the Send over this edge inside the part, where it is enabled, and answers whether it did. Of a piece whose root edge isn't live
-    /// nothing changes.
-    ///
-    /// # Errors
-    /// [`NoMemory`] where a growth was refused. Then it wasn't made.
-    #[inline]
-    pub(crate) fn send_inside<O: Ops<Item = T>>(
-        &mut self,
-        alloc: Global,
-        ops: &O,
-        links: &[Link<T>],
-        at: u32,
-    ) -> Result<bool, NoMemory>
-        requires { IsPieceOf links.now self.old }
-        ensures ends { IsPieceOf links.now self.new }
-        ensures run { Goes N.Machine (O.meaning ops.now) links.now (done result) 0 self.old self.new }
-        ensures stands { (n : ℕ) (opening : PieceSpec N T) → StandsSince N.Machine (O.meaning ops.now) n opening self.old → StandsSince N.Machine (O.meaning ops.now) n opening self.new }
-    {
-        // The links are named by the contract alone.
-        let _ = links;
-        work_at(alloc, ops, &mut self.part, NodeMove::Send(at))
+        pull(alloc, ops, &mut self.part, &mut self.up, link, budget)
     }
 }

@@ -9,7 +9,7 @@ ghost use Rattle.rsx_region.specs.declared.piece.Piece.{Piece as PieceSpec};
 
 use crate::piece::Piece;
 use rsx_link::Link;
-use rsx_pipe::{EdgeState, NodeMove, Nodes};
+use rsx_pipe::{EdgeState, Nodes};
 use rsx_types::{NoMemory, Ops};
 use std::alloc::Global;
 
@@ -38,9 +38,8 @@ pub struct Served {
 impl<N: Nodes<Item = T>, T: Drop> Piece<N, T> {
     /// Does what there is to do for the piece, until nothing is left or the budget is used up. It looks at the link that goes out,
     /// passes requests and cancels down the links that come in, takes from each the signal that its reader has room for, and makes
-    /// the moves that are enabled; and so on, from the start. After a Send that a search found it lets items go through, one after the
-    /// other, as long as they go the same way. A signal that is taken from a link counts as a move does, so that what one call does is
-    /// bounded.
+    /// the moves that are enabled; and so on, from the start. After a move that a search found it pulls items through the piece, one after
+    /// the other, as long as some come. A signal that is taken from a link counts as a move does, so that what one call does is bounded.
     ///
     /// Where it answers [`Answer::Idle`], the link that goes out was looked at, and all requests were passed on. After
     /// [`Answer::Budget`] call it again. After [`Answer::NoMemory`] what was done before stands, and it may be called again, too. Of a
@@ -187,8 +186,7 @@ impl<N: Nodes<Item = T>, T: Drop> Piece<N, T> {
         outcome(Answer::Budget, made, taken)
     }
 
-    /// Makes the first enabled move, which a search finds. Where it is a Send, items go through after it as long as they go the same
-    /// way. Where no move is enabled, nothing changes.
+    /// Makes the first enabled move, which a search finds, and lets items go through after it. Where no move is enabled, nothing changes.
     fn go_on<O: Ops<Item = T>>(
         &mut self,
         alloc: Global,
@@ -205,13 +203,12 @@ impl<N: Nodes<Item = T>, T: Drop> Piece<N, T> {
         ensures idle { result.answer ≡ Answer.Idle → result.moves + result.pops ≡ 0 → HasStayed N.Machine (O.meaning ops.now) self.old self.new }
         ensures stands { (n : ℕ) (opening : PieceSpec N T) → StandsSince N.Machine (O.meaning ops.now) n opening self.old → StandsSince N.Machine (O.meaning ops.now) n opening self.new }
     {
-        match self.start(alloc, ops, links) {
-            Ok(Some(NodeMove::Send(first))) => {
-                let rest = self.flow_over(alloc, ops, links, first, budget - 1);
+        match self.step(alloc, ops, links) {
+            Ok(true) => {
+                let rest = self.flow(alloc, ops, links, budget - 1);
                 outcome(rest.answer, 1 + rest.moves, rest.pops)
             }
-            Ok(Some(_)) => outcome(Answer::Idle, 1, 0),
-            Ok(None) => outcome(Answer::Idle, 0, 0),
+            Ok(false) => outcome(Answer::Idle, 0, 0),
             Err(NoMemory) => outcome(Answer::NoMemory, 0, 0),
         }
     }

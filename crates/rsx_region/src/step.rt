@@ -10,6 +10,8 @@ pub enum Step {
     Pop,
     /// A move of the tree: one inside the part, or a signal that is sent into the link that goes out.
     Move,
+    /// So many moves inside the part, one after the other.
+    Many(u32),
     /// A look at a queue, which changes nothing but what an end knows of it.
     Try,
 }

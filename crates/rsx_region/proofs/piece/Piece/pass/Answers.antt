@@ -1,13 +1,12 @@
-use Rattle.std.proofs.Common.{◌+◌, refl, sym, ap, ◌∙◌}
-use Rattle.rsx_region.proofs.Runs.{goes_then, none_plus}
+use Rattle.rsx_region.proofs.Runs.{goes_then, none_plus, plus_none}
 use Rattle.rsx_region.proofs.piece.Piece.pass.Goals as goal
 
-pub returns-in-Idle-clause-run : goal.returns-in-Idle-clause-run
-returns-in-Idle-clause-run g c =
+pub returns-clause-run : goal.returns-clause-run
+returns-clause-run g c =
     let m = g.O.Ops.meaning c.args.ops.now in
-    let a = c.send_along-sent in
-    let r = c.send_and_pop-rest in
-    goes_then g.N.Machine m c.args.links.now a.result.moves a.result.pops r.result.moves r.result.pops c.outcome.result.moves c.outcome.result.pops c.args.self.now a.new.self r.new.self (sym c.outcome.ensures.1) (ap (λ j. j + r.result.pops) a.ensures.pops ∙ none_plus r.result.pops r.result.pops refl ∙ sym c.outcome.ensures.2) a.ensures.run r.ensures.run
+    let moves = c.pull-moves.result in
+    let r = c.pop_each-popped in
+    goes_then g.N.Machine m c.args.links.now moves 0 0 r.result.pops c.outcome.result.moves c.outcome.result.pops c.args.self.now c.pull-moves.new.self r.new.self (plus_none moves c.outcome.result.moves c.outcome.ensures.1) (none_plus r.result.pops c.outcome.result.pops c.outcome.ensures.2) c.pull-moves.ensures.run (r.ensures.run m)
 
-pub returns-in-Idle-clause-stands : goal.returns-in-Idle-clause-stands
-returns-in-Idle-clause-stands g c n opening h = c.send_and_pop-rest.ensures.stands n opening (c.send_along-sent.ensures.stands n opening h)
+pub returns-clause-stands : goal.returns-clause-stands
+returns-clause-stands g c n opening h = c.pop_each-popped.ensures.stands (g.O.Ops.meaning c.args.ops.now) n opening (c.pull-moves.ensures.stands n opening h)

@@ -1,6 +1,6 @@
 use Rattle.std.proofs.Common.{refl, sym, arith}
 use Rattle.rsx_region.proofs.Runs.{goes_then}
-use Rattle.rsx_region.proofs.piece.Piece.flow_over.Goals as goal
+use Rattle.rsx_region.proofs.piece.Piece.flow.Goals as goal
 
 pub returns-in-NoMemory-clause-run : goal.returns-in-NoMemory-clause-run
 returns-in-NoMemory-clause-run g c = goes_then g.N.Machine (g.O.Ops.meaning c.args.ops.now) c.args.links.now c.loop-moves.moves c.loop-moves.pops c.pass-round.result.moves c.pass-round.result.pops c.outcome.result.moves c.outcome.result.pops c.args.self.now c.loop-moves.self c.pass-round.new.self (sym c.outcome.ensures.1) (sym c.outcome.ensures.2) c.loop-moves.invariant.run c.pass-round.ensures.run

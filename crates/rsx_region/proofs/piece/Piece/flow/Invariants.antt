@@ -2,7 +2,7 @@ use Rattle.std.proofs.Common.{◌+◌, ◌-◌, ◌≤◌, ℕ}
 use Rattle.rsx_region.specs.Pieces.{IsPieceOf, StandsSince}
 use Rattle.rsx_region.specs.Steps.{Goes}
 use Rattle.rsx_region.specs.declared.piece.Piece.{Piece}
-use Rattle.rsx_region.proofs.piece.Piece.flow_over.Given as goal
+use Rattle.rsx_region.proofs.piece.Piece.flow.Given as goal
 
 abbrev pub invariant-loop-moves : goal.invariant-loop-moves
 invariant-loop-moves g l =
