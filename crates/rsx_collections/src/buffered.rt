@@ -69,7 +69,7 @@ impl<T: Drop> Buffered<T> {
 
 impl<T: Drop> Copied<T> for Buffered<T> {
     fn copied<O: Ops<Item = T>>(&self, alloc: Global, ops: &O) -> Result<Buffered<T>, NoMemory> {
-        let mut items = Vec::new(alloc);
+        let mut items = Vec::with_capacity(alloc, self.items.capacity())?;
         for item in &self.items {
             let copy = ops.copy(alloc, item)?;
             items.push(copy)?;

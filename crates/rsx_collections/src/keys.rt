@@ -1,6 +1,6 @@
 //! The keys that `distinct` has seen.
 
-ghost use Rattle.std.specs.Prelude.{◌≡◌, [], ◌++◌, nat_eq, IfOk, OnOk, OnErr};
+ghost use Rattle.std.specs.Prelude.{◌≡◌, [], ◌++◌, nat_eq, length, IfOk, OnOk, OnErr};
 ghost use Rattle.std.specs.Option.{option_to_list, IfNone};
 ghost use Rattle.std.specs.Set.{is_member};
 ghost use Rattle.indexmap.specs.IndexSet.{insert_key};
@@ -52,6 +52,13 @@ impl Keys {
             Ok(new) => Ok(!new),
             Err(_) => Err(NoMemory),
         }
+    }
+
+    /// How many keys there are.
+    pub fn len(&self) -> u64
+        ensures { result ≡ length self.now }
+    {
+        self.set.len() as u64
     }
 
     /// Takes the last key, if there is one.

@@ -9,51 +9,10 @@ ghost use Rattle.rsx_plain.specs.declared.node.PlainNode.{PlainNode as PlainNode
 ghost use Rattle.rsx_plain.specs.declared.state.PlainState.{PlainState as PlainStateSpec};
 
 use crate::batch::{After, Batches, Noted};
-use rsx_plain::{PassingAll, PlainNode, PlainState};
+use rsx_plain::{PassingAll, PlainNode};
 use rsx_sources::{Machine, OutSlot};
 use rsx_types::Ops;
 use std::alloc::Global;
-
-/// An operator whose node can be copied.
-trait Copying<T: Drop> {
-    ghost state: { Self → PlainStateSpec T };
-
-    /// A node of the same operator with an empty slot. None of an operator that keeps more than an item, and for want of memory.
-    fn copied<O: Ops<Item = T>>(&self, alloc: Global, ops: &O) -> Option<PlainNode<T>>
-        ensures { IfSome result (λ n. n ≡ record { state = state self.now; slot = [] }) };
-}
-
-impl<T: Drop> Copying<T> for PlainState<T> {
-    ghost state = { λ s. s };
-
-    fn copied<O: Ops<Item = T>>(&self, alloc: Global, ops: &O) -> Option<PlainNode<T>> {
-        let state = match self {
-            PlainState::Map { function } => PlainState::Map {
-                function: *function,
-            },
-            PlainState::Filter { function, dropped } => PlainState::Filter {
-                function: *function,
-                dropped: *dropped,
-            },
-            PlainState::Take { count, left } => PlainState::Take {
-                count: *count,
-                left: *left,
-            },
-            PlainState::Scan { function, last } => match ops.copy(alloc, last) {
-                Ok(last) => PlainState::Scan {
-                    function: *function,
-                    last,
-                },
-                Err(_) => return None,
-            },
-            _ => return None,
-        };
-        Some(PlainNode {
-            state,
-            slot: OutSlot::new(),
-        })
-    }
-}
 
 impl<T: Drop> Batches for PlainNode<T> {
     ghost went = { λ old noted new. plain_went old noted.after new };
@@ -63,19 +22,7 @@ impl<T: Drop> Batches for PlainNode<T> {
         if !self.slot.is_empty() {
             return 0;
         }
-        match &self.state {
-            PlainState::Take { count: _, left } => left.saturating_sub(1),
-            PlainState::Buffer {
-                size: _,
-                gathered: _,
-            } => 0,
-            PlainState::Distinct {
-                function: _,
-                keys: _,
-                repeated: _,
-            } => 0,
-            _ => u64::MAX,
-        }
+        self.state.most()
     }
 
     fn peek<O: Ops<Item = T>>(
@@ -100,14 +47,17 @@ impl<T: Drop> Batches for PlainNode<T> {
             return None;
         }
         let took = items.len() as u64;
-        let mut node = match self.state.copied(alloc, ops) {
-            Some(node) => node,
+        let mut state = match self.state.copy_for_batch(alloc, ops) {
+            Some(state) => state,
             None => return None,
         };
-        match node.state.pass_all(alloc, ops, items, spare) {
+        match state.pass_all(alloc, ops, items, spare) {
             true => Some(Noted {
                 took,
-                after: After::Plain(node),
+                after: After::Plain(PlainNode {
+                    state,
+                    slot: OutSlot::new(),
+                }),
             }),
             false => None,
         }
