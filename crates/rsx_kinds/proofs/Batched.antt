@@ -24,9 +24,12 @@ use Rattle.rsx_kinds.specs.declared.several_node.SeveralNode.{SeveralNode}
 use Rattle.rsx_kinds.specs.declared.several_node.SeveralNode.TheVariants.{Concat}
 use Rattle.rsx_merging.specs.Concat.{after_all_passed, after_passed, concat_takes}
 use Rattle.rsx_merging.specs.declared.concat_node.ConcatNode.{ConcatNode}
+use Rattle.rsx_merging.specs.PublishOn.{publish_takes}
+use Rattle.rsx_merging.specs.declared.publish_on_node.PublishOnNode.{PublishOnNode}
+use Rattle.rsx_merging.proofs.Passes.{goes_through}
 use Rattle.rsx_merging.proofs.Through.{goes_through_concat}
 use Rattle.rsx_sources.specs.declared.machine.Front.TheVariants.{Item}
-use Rattle.rsx_kinds.proofs.Dispatch.{passed_plain, passed_several}
+use Rattle.rsx_kinds.proofs.Dispatch.{item_out_publish_on, passed_plain, passed_publish_on, passed_several}
 use Rattle.rsx_kinds.proofs.SeveralDispatch.{item_out_concat, passed_concat}
 
 -- the meaning of sources
@@ -153,3 +156,22 @@ passed_several_all m i n noted xs ys h (Window k) w = absurd w
 passed_several_all m i n noted xs ys h (FlatMap k) w = absurd w
 passed_several_all m i n noted xs ys h (FlatMapDelay k) w = absurd w
 passed_several_all m i n noted xs ys h (GroupBy k) w = absurd w
+
+-- ---- a `publishOn`
+
+-- items go through one with an empty queue as they are, and it stays
+through_publish_on : {T : Type 0} (m : Meaning T) (i : ℕ) (xs : List T) (n : PublishOnNode T) → n.input.queue.items ≡ [] → publish_takes n i Item ≡ true → ArePassed (IsIn kind_machine m i) (IsOut kind_machine m) (PublishOn n) xs xs (PublishOn n)
+through_publish_on m i [] n empty takes = (refl, refl)
+through_publish_on m i (x ∷ xs) n empty takes =
+    let h = goes_through m n i x empty takes in (
+      PublishOn h.0,
+      (passed_publish_on m n h.0 i x Kept h.1, (refl, (refl, λ a. (refl, refl, refl)))),
+      inr (x, xs, PublishOn n, refl, (item_out_publish_on m h.0 n (Some x) h.2, (refl, (refl, λ a. (refl, refl, refl)))), through_publish_on m i xs n empty takes),
+    )
+
+pub passed_publish_on_all : {T : Type 0} (m : Meaning T) (i : ℕ) (old new : AnyNode T) (n : PublishOnNode T) (noted : Noted T) (xs : List T) → old ≡ PublishOn n → n.input.queue.items ≡ [] → publish_takes n i Item ≡ true → any_went old noted new →
+    ArePassed (IsIn kind_machine m i) (IsOut kind_machine m) old xs xs new
+passed_publish_on_all {T} m i old new n noted xs is empty takes w =
+    let P : AnyNode T → Type 0 = λ s. any_went s noted new → ArePassed (IsIn kind_machine m i) (IsOut kind_machine m) s xs xs new in
+    let Q : AnyNode T → Type 0 = λ s. ArePassed (IsIn kind_machine m i) (IsOut kind_machine m) (PublishOn n) xs xs s in
+    subst P (sym is) (λ gone. subst Q (sym gone) (through_publish_on m i xs n empty takes)) w

@@ -1,9 +1,11 @@
-//! Batches through nodes of any kind. Ranges make them, and plain operators and a concat pass them on.
+//! Batches through nodes of any kind. Ranges make them, and plain operators, a concat and a `publishOn` with an empty queue pass them on.
 
-ghost use Rattle.std.specs.Prelude.{◌≡◌};
+ghost use Rattle.std.specs.Prelude.{◌≡◌, [], true};
 ghost use Rattle.rsx_kinds.specs.Went.{any_went, several_went, source_went};
+ghost use Rattle.rsx_merging.specs.PublishOn.{publish_takes};
 
 use crate::{AnyNode, SeveralNode, SourceNode};
+use rsx_merging::PublishOnNode;
 use rsx_rooted::{After, Batches, Noted};
 use rsx_sources::{Front, Machine};
 use rsx_types::Ops;
@@ -130,8 +132,8 @@ impl<T: Drop> Batches for AnyNode<T> {
             AnyNode::Source(node) => node.most(),
             AnyNode::Plain(node) => node.most(),
             AnyNode::Several(node) => node.most(),
-            AnyNode::PublishOn(_)
-            | AnyNode::PublishOnEager(_)
+            AnyNode::PublishOn(_) => u64::MAX,
+            AnyNode::PublishOnEager(_)
             | AnyNode::Window(_)
             | AnyNode::FlatMap(_)
             | AnyNode::FlatMapDelay(_)
@@ -170,8 +172,16 @@ impl<T: Drop> Batches for AnyNode<T> {
         match self {
             AnyNode::Plain(node) => node.try_pass(alloc, ops, input, items, spare),
             AnyNode::Several(node) => node.try_pass(alloc, ops, input, items, spare),
+            AnyNode::PublishOn(node) => {
+                if !goes_through(node, input) {
+                    return None;
+                }
+                Some(Noted {
+                    took: items.len() as u64,
+                    after: After::Counted,
+                })
+            }
             AnyNode::Source(_)
-            | AnyNode::PublishOn(_)
             | AnyNode::PublishOnEager(_)
             | AnyNode::Window(_)
             | AnyNode::FlatMap(_)
@@ -195,4 +205,11 @@ impl<T: Drop> Batches for AnyNode<T> {
             | AnyNode::GroupBy(_) => {},
         }
     }
+}
+
+/// Whether an item of this input goes through without a stay in the queue.
+fn goes_through<T: Drop>(node: &PublishOnNode<T>, input: u64) -> bool
+    ensures { result ≡ true → (node.now.input.queue.items ≡ []) × (publish_takes node.now input Front.Item ≡ true) }
+{
+    node.input.queue.is_empty() && node.can_take(input, Front::Item)
 }
