@@ -20,7 +20,7 @@ use rsx_types::{
 };
 use std::alloc::Global;
 
-/// How many items are pulled one by one, once they didn't come many at once, before that is tried again.
+/// How many items more than one are pulled one by one, once none came many at once, before that is tried again.
 const SINGLES: u32 = 32;
 
 /// One subscription of a graph.
@@ -489,6 +489,10 @@ impl<N: Nodes<Item = T> + Batches, T: Drop> Subscription<N, T> {
         }
         let mut left = budget;
         let mut singles = 0;
+        // Of what was asked for before this call many may come at once.
+        if self.demand.room() >= FEWEST_IN_BATCH {
+            let _ = self.fetch_batches(alloc, ops, id, &mut left, out);
+        }
         'items: while left > 0 {
             match self.fetch_one(alloc, ops, id, &mut left, out) {
                 Ok(true) => {}
@@ -504,8 +508,8 @@ impl<N: Nodes<Item = T> + Batches, T: Drop> Subscription<N, T> {
         Ok(left)
     }
 
-    /// Pulls items through the part many at once and hands them to the subscriber, as long as that goes on. Answers how many items
-    /// are to be pulled one by one before it is worth to try this again.
+    /// Pulls items through the part many at once and hands them to the subscriber, as long as that goes on. Answers how many items more
+    /// than one are to be pulled one by one before it is worth to try this again: none where some came.
     #[inline(never)]
     fn fetch_batches<O: Ops<Item = T>>(
         &mut self,
@@ -519,9 +523,10 @@ impl<N: Nodes<Item = T> + Batches, T: Drop> Subscription<N, T> {
         ensures pumped { SomePumped N.Machine N.Nodes.own (O.meaning ops.now) id (λ n. n + left.new ≡ left.old) self.old out.old self.new out.new }
         ensures queue { self.new.queue ≡ [] }
     {
+        let before = *left;
         let mut batch = Batch::new(alloc);
         'batches: while self.fetch_batch(alloc, ops, id, left, out, &mut batch) {}
-        SINGLES
+        singles_after(*left < before)
     }
 
     /// Pulls many items at once through the part and hands them to the subscriber.
@@ -630,6 +635,11 @@ impl<N: Nodes<Item = T> + Batches, T: Drop> Subscription<N, T> {
         }
         Ok(self.rest(left))
     }
+}
+
+/// How many items more than one are pulled one by one, after some came many at once, or none did.
+fn singles_after(some: bool) -> u32 {
+    if some { 0 } else { SINGLES }
 }
 
 /// What comes out of a queue, and then the rest.

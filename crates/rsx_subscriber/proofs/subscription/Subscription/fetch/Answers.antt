@@ -25,8 +25,8 @@ items-preserved-then-singles-gt0 g c =
       (c.in-Ok-true.ensures.delivered c.in-Ok-true.field-0-test).0,
     )
 
-pub items-preserved-then-room-ge-FEWEST_IN_BATCH : goal.items-preserved-then-room-ge-FEWEST_IN_BATCH
-items-preserved-then-room-ge-FEWEST_IN_BATCH g c =
+pub items-preserved-then-room-ge-FEWEST_IN_BATCH-2 : goal.items-preserved-then-room-ge-FEWEST_IN_BATCH-2
+items-preserved-then-room-ge-FEWEST_IN_BATCH-2 g c =
     let m = g.O.Ops.meaning c.args.ops.now in
     let done = c.items.invariant.0 in
     let more = c.in-Ok-true.ensures.pumped in
