@@ -13,7 +13,7 @@ use Rattle.rsx_link.specs.Ends.{asked_total, carried_down, carried_up, received_
 use Rattle.rsx_link.specs.Signals.{items_in as counted_in}
 use Rattle.rsx_link.specs.declared.link.Link.{Link}
 use Rattle.rsx_region.specs.Piece.{PieceStands}
-use Rattle.rsx_region.specs.Pieces.{StandsSince, came_of, numbers_of, taken_by, taken_of}
+use Rattle.rsx_region.specs.Pieces.{StandsSince, came_of, numbers_of, taken_by, taken_of, none_taken}
 use Rattle.rsx_region.specs.declared.piece.Incoming.{Incoming}
 use Rattle.rsx_region.specs.declared.piece.Piece.{Piece}
 use Rattle.rsx_runtime.specs.Ordered.{is_none, is_orderly, is_unended}
@@ -108,7 +108,7 @@ raised_to root seen total is less most = omega (arith, is, less, most)
 -- ---- the subscription
 
 module _ {M T : Type 0} (b : Machine M T) (m : Meaning T) (n number : ℕ) (was : Subscription M T) (opening piece : Piece M T) (made link : Link T) (tap : Tap T) (stopped : Bool) (sub : Subscription M T)
-    (out : IsOutOf b was number opening made) (counts : carried_down tap.down ≡ was.demand.sent) (since : StandsSince b m n opening piece) (back : IsBackOf b piece tap stopped sub) (published : List (Stream T)) (past : Past T) (st : Stands b m published was past) where
+    (out : IsOutOf b was number opening made) (counts : carried_down tap.down ≡ was.demand.sent) (since : StandsSince b m (none_taken n) opening piece) (back : IsBackOf b piece tap stopped sub) (published : List (Stream T)) (past : Past T) (st : Stands b m published was past) where
   abbrev received : List (Signal T)
   received = received_signals tap.down
 
@@ -119,10 +119,10 @@ module _ {M T : Type 0} (b : Machine M T) (m : Meaning T) (n number : ℕ) (was 
   live_was = subst IsLive (sym out.may.stands) tt
 
   -- what the piece is since its opening
-  taken_none : taken_of n piece ≡ replicate n (stream_of [])
+  taken_none : taken_of (none_taken n) piece ≡ replicate n (stream_of [])
   taken_none =
       let ins : piece.inlets.items ≡ [] = none_in numbers_of piece.inlets.items (since.links.1 ∙ ap (map numbers_of) out.ins) in
-      ap (λ (l : List (Incoming T)). taken_by stream_of [] n (map came_of l)) ins
+      ap (λ (l : List (Incoming T)). taken_by stream_of (none_taken n) (map came_of l)) ins
 
   stands_piece : PieceStands b m (replicate n (stream_of [])) was.part.tree was.queue piece.part piece.up
   stands_piece =

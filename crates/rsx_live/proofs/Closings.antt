@@ -9,7 +9,7 @@ use Rattle.rsx_link.specs.Link.{is_positive}
 use Rattle.rsx_link.specs.Parts.{IsWhole}
 use Rattle.rsx_link.specs.Steps.{is_refused}
 use Rattle.rsx_link.specs.declared.link.Link.{Link}
-use Rattle.rsx_region.specs.Pieces.{StandsSince}
+use Rattle.rsx_region.specs.Pieces.{StandsSince, none_taken}
 use Rattle.rsx_region.specs.Regions.{ArePiecesOf}
 use Rattle.rsx_region.specs.Trees.{AreCutFrom, EdgeName, HaveGoneSince, IsCutThere, IsOpen, LastCannotJoin, Stage, names_of, stage_of}
 use Rattle.rsx_region.specs.declared.piece.Piece.{Piece}
@@ -102,29 +102,29 @@ module _ {M T : Type 0} (b : Machine M T) (m : Meaning T) where
   -- ---- pieces that were joined
 
   pub back_ready : (crossing : CrossingNodes M T) (subs : List (Subscription M T)) (ks : List (Kept M T)) (pieces : List (Piece M T)) (links : List (Link T)) (first : List (Tap T)) (trees : CutTrees M T) (tapped : List (Link T)) (taps : List (Tap T)) → AreOut b 0 subs ks pieces links first →
-      HaveGoneSince b crossing m most_numbers (record { pieces = pieces; links = links }) (record { pieces = pieces; links = links }) trees → ((j : ℕ) (l : Link T) → slice_get links j ≡ Some l → slice_get tapped j ≡ Some l) → AreTapsFrom tapped 0 ks taps →
+      HaveGoneSince b crossing m (none_taken most_numbers) (none_taken most_numbers) (record { pieces = pieces; links = links }) (record { pieces = pieces; links = links }) trees → ((j : ℕ) (l : Link T) → slice_get links j ≡ Some l → slice_get tapped j ≡ Some l) → AreTapsFrom tapped 0 ks taps →
       AreBack b m most_numbers 0 subs ks trees.pieces.items trees.links.items taps
   back_ready crossing subs ks pieces links first trees tapped taps out since ahead are =
       let E : List (Link T) → Type 0 = λ l. ArePiecesOf l trees.pieces.items in
       let A : List (Link T) → Type 0 = λ l. AreBack b m most_numbers 0 subs ks trees.pieces.items l taps in
       let from : Ahead tapped 0 links = λ j l at. let same : 0 + j ≡ j = omega arith in ap (slice_get tapped) same ∙ ahead j l at in
       subst A (sym since.links) (ready b m most_numbers tapped links subs 0 ks pieces links first trees.pieces.items taps out
-      (zip_of (StandsSince b m most_numbers) pieces trees.pieces.items since.stands.count since.stands.each) (subst E since.links since.ends) from (all_ahead links) are)
+      (zip_of (StandsSince b m (none_taken most_numbers)) pieces trees.pieces.items since.stands.count since.stands.each) (subst E since.links since.ends) from (all_ahead links) are)
 
   -- those that were given back stand for what they stood for
   pub given_ready : (crossing : CrossingNodes M T) (subs : List (Subscription M T)) (ks : List (Kept M T)) (taps : List (Tap T)) (trees joined : CutTrees M T) → (g : HaveGoneOut b crossing m subs ks taps trees) →
-      HaveGoneSince b crossing m most_numbers (record { pieces = g.pieces; links = g.links }) (record { pieces = g.pieces; links = g.links }) joined → AreBack b m most_numbers 0 subs ks joined.pieces.items joined.links.items taps
+      HaveGoneSince b crossing m (none_taken most_numbers) (none_taken most_numbers) (record { pieces = g.pieces; links = g.links }) (record { pieces = g.pieces; links = g.links }) joined → AreBack b m most_numbers 0 subs ks joined.pieces.items joined.links.items taps
   given_ready crossing subs ks taps trees joined g since = back_ready crossing subs ks g.pieces g.links taps joined g.links taps g.out since (λ j l at. at) (taps_first g.links subs 0 ks g.pieces g.links taps g.out (all_ahead g.links))
 
   pub given_stand : (crossing : CrossingNodes M T) (subs : List (Subscription M T)) (ks : List (Kept M T)) (taps : List (Tap T)) (trees joined : CutTrees M T) (now : List (Subscription M T)) → (g : HaveGoneOut b crossing m subs ks taps trees) →
-      HaveGoneSince b crossing m most_numbers (record { pieces = g.pieces; links = g.links }) (record { pieces = g.pieces; links = g.links }) joined → CameBack b ks joined.pieces.items joined.links.items taps now → StandAs b m subs now
+      HaveGoneSince b crossing m (none_taken most_numbers) (none_taken most_numbers) (record { pieces = g.pieces; links = g.links }) (record { pieces = g.pieces; links = g.links }) joined → CameBack b ks joined.pieces.items joined.links.items taps now → StandAs b m subs now
   given_stand crossing subs ks taps trees joined now g since came published pasts st =
       let A : List (Past T) → Type 0 = λ l. AllStand b m published now l in
       subst A (all_same subs 0 ks g.pieces g.links taps came.flags published pasts g.out came.stopped st) (came.stands m most_numbers 0 subs (given_ready crossing subs ks taps trees joined g since) published pasts st)
 
   -- where a join was refused
   pub joined_not : (crossing : CrossingNodes M T) (subs : List (Subscription M T)) (ks : List (Kept M T)) (taps : List (Tap T)) (trees joined : CutTrees M T) → HaveGoneOut b crossing m subs ks taps trees →
-      ((whole opening : Stage M T) → HaveGoneSince b crossing m most_numbers whole opening trees → (before : Stage M T) × HaveGoneSince b crossing m most_numbers whole before joined) → (0 < length joined.edges.items) × LastCannotJoin b crossing joined → AreNotJoined b crossing m subs ks
+      ((whole opening : Stage M T) → HaveGoneSince b crossing m (none_taken most_numbers) (none_taken most_numbers) whole opening trees → (before : Stage M T) × HaveGoneSince b crossing m (none_taken most_numbers) (none_taken most_numbers) whole before joined) → (0 < length joined.edges.items) × LastCannotJoin b crossing joined → AreNotJoined b crossing m subs ks
   joined_not crossing subs ks taps trees joined g since refused =
       let s = since (record { pieces = g.pieces; links = g.links }) g.opening g.since in
       record {
@@ -138,15 +138,8 @@ module _ {M T : Type 0} (b : Machine M T) (m : Meaning T) where
   -- trees that were cut, with nothing done since
   pub gone_of : (crossing : CrossingNodes M T) (subs : List (Subscription M T)) (ks : List (Kept M T)) (taps : List (Tap T)) (trees : CutTrees M T) → AreCutOut b crossing m subs ks taps trees → HaveGoneOut b crossing m subs ks taps trees
   gone_of crossing subs ks taps trees c =
-      let s = since_from b crossing m most_numbers (record { pieces = c.pieces; links = c.links }) trees c.cut in
+      let s = since_from b crossing m (none_taken most_numbers) (record { pieces = c.pieces; links = c.links }) trees c.cut in
       record { pieces = c.pieces; links = c.links; out = c.out; opening = s.0; since = s.1 }
-
--- trees with no edge left are whole again
-pub none_left : {M T : Type 0} (b : Machine M T) (crossing : CrossingNodes M T) (m : Meaning T) (n : ℕ) (whole : Stage M T) (t : CutTrees M T) → t.edges.items ≡ [] → (before : Stage M T) × HaveGoneSince b crossing m n whole before t → HaveGoneSince b crossing m n whole whole t
-none_left {M} {T} b crossing m n whole t none since =
-    let names : names_of t.edges.items ≡ [] = ap names_of none in
-    let same : since.0 ≡ whole = subst (λ (l : List EdgeName). Leads (IsCutThere b crossing m n) whole l since.0) names since.1.run in
-    subst (λ (s : Stage M T). HaveGoneSince b crossing m n whole s t) same since.1
 
 -- ---- live ones
 
@@ -157,7 +150,7 @@ module _ {M T O : Type 0} (b : Machine M T) (crossing : CrossingNodes M T) (mean
       ap (λ ls. slice_get ls j) (is.links ∙ is.same.links) ∙ links_ahead b crossing (meaning live.ops) most_numbers whole (names_of plan.edges.items) is.opening is.run j l at
 
   -- where a join was refused of what came back
-  pub live_not : (subs : List (Subscription M T)) (s : LiveSubscriptions M T O) (is : IsLiveFor b crossing meaning subs s) (trees : CutTrees M T) → (opening : Stage M T) × HaveGoneSince b crossing (meaning s.live.ops) most_numbers (record { pieces = is.pieces; links = is.links }) opening trees →
+  pub live_not : (subs : List (Subscription M T)) (s : LiveSubscriptions M T O) (is : IsLiveFor b crossing meaning subs s) (trees : CutTrees M T) → (opening : Stage M T) × HaveGoneSince b crossing (meaning s.live.ops) (none_taken most_numbers) (none_taken most_numbers) (record { pieces = is.pieces; links = is.links }) opening trees →
       (0 < length trees.edges.items) × LastCannotJoin b crossing trees → AreNotJoined b crossing (meaning s.live.ops) subs s.kept.items
   live_not subs s is trees since refused = record {
     taps = is.taps;
@@ -179,17 +172,17 @@ module _ {M T O : Type 0} (b : Machine M T) (crossing : CrossingNodes M T) (mean
 module _ {M T : Type 0} (b : Machine M T) (crossing : CrossingNodes M T) (m : Meaning T) where
   -- none of them is cut yet
   pub cut_first : (subs : List (Subscription M T)) (ks : List (Kept M T)) (taps : List (Tap T)) (pieces : Vec (Piece M T) Global) (links : Vec (Link T) Global) (trees : CutTrees M T) → AreOut b 0 subs ks pieces.items links.items taps → (trees.pieces ≡ pieces) × (trees.links ≡ links) × (trees.edges.items ≡ []) →
-      (IsOpen b m most_numbers (stage_of trees) → AreCutFrom b crossing m most_numbers (stage_of trees) trees) → AreCutOut b crossing m subs ks taps trees
+      (IsOpen b m (none_taken most_numbers) (stage_of trees) → AreCutFrom b crossing m (none_taken most_numbers) (stage_of trees) trees) → AreCutOut b crossing m subs ks taps trees
   cut_first subs ks taps pieces links trees out made from =
       let same : stage_of trees ≡ record { pieces = pieces.items; links = links.items } =
       ap (λ (p : Vec (Piece M T) Global). let s : Stage M T = record { pieces = p.items; links = trees.links.items } in s) made.0 ∙ ap (λ (l : Vec (Link T) Global). let s : Stage M T = record { pieces = pieces.items; links = l.items } in s) made.1 in
-      let O : Stage M T → Type 0 = λ s. IsOpen b m most_numbers s in
-      let C : Stage M T → Type 0 = λ s. AreCutFrom b crossing m most_numbers s trees in
+      let O : Stage M T → Type 0 = λ s. IsOpen b m (none_taken most_numbers) s in
+      let C : Stage M T → Type 0 = λ s. AreCutFrom b crossing m (none_taken most_numbers) s trees in
       record { pieces = pieces.items; links = links.items; out = out; cut = subst C same (from (subst O (sym same) (out_open b m most_numbers subs ks pieces.items links.items taps out))) }
 
   -- they are cut further
   pub still_cut : (subs : List (Subscription M T)) (ks : List (Kept M T)) (taps : List (Tap T)) (old new : CutTrees M T) → AreCutOut b crossing m subs ks taps old →
-      ((n : ℕ) (whole : Stage M T) → 2 ^ 32 ≤ n → AreCutFrom b crossing m n whole old → AreCutFrom b crossing m n whole new) → AreCutOut b crossing m subs ks taps new
+      ((n : ℕ) (whole : Stage M T) → 2 ^ 32 ≤ n → AreCutFrom b crossing m (none_taken n) whole old → AreCutFrom b crossing m (none_taken n) whole new) → AreCutOut b crossing m subs ks taps new
   still_cut subs ks taps old new c from = record { pieces = c.pieces; links = c.links; out = c.out; cut = from most_numbers (record { pieces = c.pieces; links = c.links }) (omega arith) c.cut }
 
   pub as_many_kept : (subs : List (Subscription M T)) (k : ℕ) (ks : List (Kept M T)) (ps : List (Piece M T)) (ls : List (Link T)) (ts : List (Tap T)) → AreOut b k subs ks ps ls ts → length ks ≡ length subs
@@ -230,7 +223,7 @@ all_cut {M} {T} b crossing subs p ks all first now count senders roots taps plac
 module _ {M T O : Type 0} (b : Machine M T) (crossing : CrossingNodes M T) (meaning : O → Meaning T) where
   -- the trees and the functions that come back
   pub gone_back : (ops o : O) (subs : List (Subscription M T)) (ks : List (Kept M T)) (ts : List (Tap T)) (trees back : CutTrees M T) → AreCutOut b crossing (meaning ops) subs ks ts trees → o ≡ ops →
-      ((whole : Stage M T) → AreCutFrom b crossing (meaning ops) most_numbers whole trees → (opening : Stage M T) × HaveGoneSince b crossing (meaning ops) most_numbers whole opening back) → HaveGoneOut b crossing (meaning o) subs ks ts back
+      ((whole : Stage M T) → AreCutFrom b crossing (meaning ops) (none_taken most_numbers) whole trees → (opening : Stage M T) × HaveGoneSince b crossing (meaning ops) (none_taken most_numbers) (none_taken most_numbers) whole opening back) → HaveGoneOut b crossing (meaning o) subs ks ts back
   gone_back ops o subs ks ts trees back c same since =
       let s = since (record { pieces = c.pieces; links = c.links }) c.cut in
       subst (λ (f : O). HaveGoneOut b crossing (meaning f) subs ks ts back) (sym same) (record { pieces = c.pieces; links = c.links; out = c.out; opening = s.0; since = s.1 })

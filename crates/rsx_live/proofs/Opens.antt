@@ -11,7 +11,7 @@ use Rattle.rsx_link.specs.declared.link.Link.{Link}
 use Rattle.rsx_region.specs.Inlet.{InletStands, IsInletOf}
 use Rattle.rsx_region.proofs.Openings.{opens}
 use Rattle.rsx_region.specs.Cuts.{HasTakenNothing}
-use Rattle.rsx_region.specs.Pieces.{AreApart, Each, IsAt, IsPieceOf, StandsSince, hub_of, taken_of}
+use Rattle.rsx_region.specs.Pieces.{AreApart, Each, IsAt, IsPieceOf, StandsSince, hub_of, taken_of, none_taken, IsBlankAt}
 use Rattle.rsx_region.specs.Regions.{ArePiecesOf}
 use Rattle.rsx_region.specs.Trees.{IsOpen}
 use Rattle.rsx_region.specs.declared.piece.Incoming.{Incoming}
@@ -32,7 +32,7 @@ apart_none : {T : Type 0} (xs : List (Incoming T)) → xs ≡ [] → AreApart (m
 apart_none {T} xs e = subst (λ (l : List (Incoming T)). AreApart (map hub_of l)) (sym e) (λ j k h p q. cc)
 
 -- it stands for what it begins with
-pub stands_first : {M T : Type 0} (b : Machine M T) (m : Meaning T) (n k : ℕ) (s : Subscription M T) (p : Piece M T) (l : Link T) → IsOutOf b s k p l → StandsSince b m n p p
+pub stands_first : {M T : Type 0} (b : Machine M T) (m : Meaning T) (n k : ℕ) (s : Subscription M T) (p : Piece M T) (l : Link T) → IsOutOf b s k p l → StandsSince b m (none_taken n) p p
 stands_first {M} {T} b m n k s p l out =
     let live : p.part.root.state ≡ Live = ap (λ (q : Part M). q.root.state) out.part ∙ out.may.counts.live in
     let R : Part M → Type 0 = λ q. ReadsNothing b q.tree in
@@ -40,8 +40,9 @@ stands_first {M} {T} b m n k s p l out =
     record {
       links = (refl, refl);
       carried = refl;
-      part = opens b m (taken_of n p) p.part p.up live out.step (tree_unread b (counts_in (taken_of n p)) p.part.tree unread);
-      ins = each_none (λ (i : Incoming T). InletStands b (taken_of n p) p.part i.inlet) p.inlets.items out.ins;
+      part = opens b m (taken_of (none_taken n) p) p.part p.up live out.step (tree_unread b (counts_in (taken_of (none_taken n) p)) p.part.tree unread);
+      ins = each_none (λ (i : Incoming T). InletStands b (taken_of (none_taken n) p) p.part i.inlet) p.inlets.items out.ins;
+      blank = each_none (λ (i : Incoming T). IsBlankAt (none_taken n) (hub_of i)) p.inlets.items out.ins;
     }
 
 pub fresh_first : {M T : Type 0} (b : Machine M T) (k : ℕ) (s : Subscription M T) (p : Piece M T) (l : Link T) → IsOutOf b s k p l → HasTakenNothing p
@@ -72,13 +73,13 @@ module _ {M T : Type 0} (b : Machine M T) (m : Meaning T) (n : ℕ) where
   record AreFirst (all : List (Link T)) (ps : List (Piece M T)) : Type 0 where
     ends : ArePiecesOf all ps
     fresh : Each HasTakenNothing ps
-    stands : Each (λ (p : Piece M T). StandsSince b m n p p) ps
+    stands : Each (λ (p : Piece M T). StandsSince b m (none_taken n) p p) ps
 
   none_first : (all : List (Link T)) (ps : List (Piece M T)) → ps ≡ [] → AreFirst all ps
   none_first all ps e = record {
     ends = each_none (IsPieceOf all) ps e;
     fresh = each_none HasTakenNothing ps e;
-    stands = each_none (λ (p : Piece M T). StandsSince b m n p p) ps e;
+    stands = each_none (λ (p : Piece M T). StandsSince b m (none_taken n) p p) ps e;
   }
 
   are_first : (subs : List (Subscription M T)) (pre : List (Link T)) (k : ℕ) (ks : List (Kept M T)) (ps : List (Piece M T)) (ls : List (Link T)) (ts : List (Tap T)) → length pre ≡ k → AreOut b k subs ks ps ls ts → AreFirst (pre ++ ls) ps
@@ -95,11 +96,11 @@ module _ {M T : Type 0} (b : Machine M T) (m : Meaning T) (n : ℕ) where
         subst P (sym g.piece_first) (record {
           ends = each_cons (IsPieceOf (pre ++ ls)) g.piece g.pieces (ends_first b k s g.piece g.link (pre ++ ls) g.out there) (subst E all rest.ends);
           fresh = each_cons HasTakenNothing g.piece g.pieces (fresh_first b k s g.piece g.link g.out) rest.fresh;
-          stands = each_cons (λ (p : Piece M T). StandsSince b m n p p) g.piece g.pieces (stands_first b m n k s g.piece g.link g.out) rest.stands;
+          stands = each_cons (λ (p : Piece M T). StandsSince b m (none_taken n) p p) g.piece g.pieces (stands_first b m n k s g.piece g.link g.out) rest.stands;
         }))
   ]
 
-  pub out_open : (subs : List (Subscription M T)) (ks : List (Kept M T)) (ps : List (Piece M T)) (ls : List (Link T)) (ts : List (Tap T)) → AreOut b 0 subs ks ps ls ts → IsOpen b m n (record { pieces = ps; links = ls })
+  pub out_open : (subs : List (Subscription M T)) (ks : List (Kept M T)) (ps : List (Piece M T)) (ls : List (Link T)) (ts : List (Tap T)) → AreOut b 0 subs ks ps ls ts → IsOpen b m (none_taken n) (record { pieces = ps; links = ls })
   out_open subs ks ps ls ts out =
       let f = are_first subs [] 0 ks ps ls ts refl out in
       record { ends = f.ends; fresh = f.fresh; stands = f.stands }

@@ -7,7 +7,7 @@ use Rattle.rsx_rooted.specs.declared.nodes.CrossingNodes.{Ghosts as CrossingNode
 use Rattle.rsx_tree.specs.Runs.{Leads}
 use Rattle.rsx_link.specs.Ends.{IsUpOf}
 use Rattle.rsx_link.specs.declared.link.Link.{Link}
-use Rattle.rsx_region.specs.Pieces.{IsPieceOf, StandsSince}
+use Rattle.rsx_region.specs.Pieces.{IsPieceOf, StandsSince, none_taken}
 use Rattle.rsx_region.specs.Regions.{ArePiecesOf}
 use Rattle.rsx_region.specs.Trees.{EdgeName, IsCutThere, Stage}
 use Rattle.rsx_region.specs.declared.piece.Piece.{Piece}
@@ -54,7 +54,7 @@ zip_of R (x ∷ xs) (y ∷ ys) e h = (h 0 x y refl refl, zip_of R xs ys (let k :
 
 module _ {M T : Type 0} (b : Machine M T) (crossing : CrossingNodes M T) (m : Meaning T) (n : ℕ) where
   -- those that were there before stand in front
-  pub links_ahead : (whole : Stage M T) (names : List EdgeName) (opening : Stage M T) → Leads (IsCutThere b crossing m n) whole names opening → (j : ℕ) (l : Link T) → slice_get whole.links j ≡ Some l → slice_get opening.links j ≡ Some l
+  pub links_ahead : (whole : Stage M T) (names : List EdgeName) (opening : Stage M T) → Leads (IsCutThere b crossing m (none_taken n)) whole names opening → (j : ℕ) (l : Link T) → slice_get whole.links j ≡ Some l → slice_get opening.links j ≡ Some l
   links_ahead whole [] opening run j l at = ap (λ (s : Stage M T). slice_get s.links j) run ∙ at
   links_ahead whole (name ∷ names) opening run j l at =
       let cut = run.1 in
@@ -65,7 +65,7 @@ module _ {M T : Type 0} (b : Machine M T) (crossing : CrossingNodes M T) (m : Me
 -- ---- all of them
 
 module _ {M T : Type 0} (b : Machine M T) (m : Meaning T) (n : ℕ) (tapped sent : List (Link T)) where
-  same_link : (k : ℕ) (link : Link T) (opening piece : Piece M T) → slice_get sent k ≡ Some link → opening.link ≡ k → StandsSince b m n opening piece → IsPieceOf sent piece → IsUpOf link piece.up
+  same_link : (k : ℕ) (link : Link T) (opening piece : Piece M T) → slice_get sent k ≡ Some link → opening.link ≡ k → StandsSince b m (none_taken n) opening piece → IsPieceOf sent piece → IsUpOf link piece.up
   same_link k link opening piece at number since ends =
       let s = ends.sends in
       let there : slice_get sent k ≡ Some s.0 = ap (slice_get sent) (sym (since.links.0 ∙ number)) ∙ s.1 in
@@ -73,19 +73,19 @@ module _ {M T : Type 0} (b : Machine M T) (m : Meaning T) (n : ℕ) (tapped sent
 
   -- the others can, where there are such pieces and taps of them
   abbrev Others : (k : ℕ) (s : Subscription M T) (ks : List (Kept M T)) (ps : List (Piece M T)) (ls : List (Link T)) (ts : List (Tap T)) (subs : List (Subscription M T)) → Goes b k s ks ps ls ts → List (Piece M T) → List (Tap T) → Type 0
-  Others k s ks ps ls ts subs g now taps = AreOut b (suc k) subs g.others g.pieces g.links g.taps → AllZip (StandsSince b m n) g.pieces now → ArePiecesOf sent now → Ahead tapped (suc k) g.links → Ahead sent (suc k) g.links → AreTapsFrom tapped (suc k) g.others taps → AreBack b m n (suc k) subs g.others now g.links taps
+  Others k s ks ps ls ts subs g now taps = AreOut b (suc k) subs g.others g.pieces g.links g.taps → AllZip (StandsSince b m (none_taken n)) g.pieces now → ArePiecesOf sent now → Ahead tapped (suc k) g.links → Ahead sent (suc k) g.links → AreTapsFrom tapped (suc k) g.others taps → AreBack b m n (suc k) subs g.others now g.links taps
 
   pub ready : (subs : List (Subscription M T)) (k : ℕ) (ks : List (Kept M T)) (ps : List (Piece M T)) (ls : List (Link T)) (ts : List (Tap T)) (now : List (Piece M T)) (taps : List (Tap T)) →
-      AreOut b k subs ks ps ls ts → AllZip (StandsSince b m n) ps now → ArePiecesOf sent now → Ahead tapped k ls → Ahead sent k ls → AreTapsFrom tapped k ks taps → AreBack b m n k subs ks now ls taps
+      AreOut b k subs ks ps ls ts → AllZip (StandsSince b m (none_taken n)) ps now → ArePiecesOf sent now → Ahead tapped k ls → Ahead sent k ls → AreTapsFrom tapped k ks taps → AreBack b m n k subs ks now ls taps
   ready [] k ks ps ls ts now taps out since ends at_taps at_sent are = (out.0, subst (λ (l : List (Kept M T)). AreTapsFrom tapped k l taps) out.0 are)
   ready (s ∷ subs) k ks ps ls ts now taps out since ends at_taps at_sent are = elim out [
     | inl h ↦ (
         let rest : AreTapsFrom tapped k h.0.others taps = subst (λ (l : List (Kept M T)). AreTapsFrom tapped k l taps) h.0.is are in
         inl (h.0, ready subs k h.0.others ps ls ts now taps h.1 since ends at_taps at_sent rest))
-    | inr h ↦ inr (goes (λ g ps' taps' o z e t s' a. ready subs (suc k) g.others g.pieces g.links g.taps ps' taps' o z e t s' a) now taps h.0 h.1 (subst (λ (l : List (Piece M T)). AllZip (StandsSince b m n) l now) h.0.piece_first since) ends (subst (λ (l : List (Kept M T)). AreTapsFrom tapped k l taps) h.0.is are))
+    | inr h ↦ inr (goes (λ g ps' taps' o z e t s' a. ready subs (suc k) g.others g.pieces g.links g.taps ps' taps' o z e t s' a) now taps h.0 h.1 (subst (λ (l : List (Piece M T)). AllZip (StandsSince b m (none_taken n)) l now) h.0.piece_first since) ends (subst (λ (l : List (Kept M T)). AreTapsFrom tapped k l taps) h.0.is are))
   ]
     where
-      goes : ((g : Goes b k s ks ps ls ts) (ps' : List (Piece M T)) (taps' : List (Tap T)) → Others k s ks ps ls ts subs g ps' taps') → (now : List (Piece M T)) (taps : List (Tap T)) (g : Goes b k s ks ps ls ts) → AreOut b (suc k) subs g.others g.pieces g.links g.taps → AllZip (StandsSince b m n) (g.piece ∷ g.pieces) now → ArePiecesOf sent now → AreTapsFrom tapped k (Away [] s.demand.sent ∷ g.others) taps →
+      goes : ((g : Goes b k s ks ps ls ts) (ps' : List (Piece M T)) (taps' : List (Tap T)) → Others k s ks ps ls ts subs g ps' taps') → (now : List (Piece M T)) (taps : List (Tap T)) (g : Goes b k s ks ps ls ts) → AreOut b (suc k) subs g.others g.pieces g.links g.taps → AllZip (StandsSince b m (none_taken n)) (g.piece ∷ g.pieces) now → ArePiecesOf sent now → AreTapsFrom tapped k (Away [] s.demand.sent ∷ g.others) taps →
           (r : Returns b m n k s ks now ls taps) × AreBack b m n (suc k) subs r.others r.first.pieces r.first.links r.first.taps
       goes again [] taps g out since ends are = absurd since
       goes again (p ∷ now) [] g out since ends are = absurd are

@@ -3,7 +3,7 @@ use Rattle.std.proofs.Common.{◌≡◌, inl, inr, ℕ, suc, Bool, List, [], ◌
 use Rattle.rsx_sources.specs.Prelude.{Meaning, Signal, Stream}
 use Rattle.rsx_sources.specs.declared.machine.Machine.{Ghosts as Machine}
 use Rattle.rsx_link.specs.declared.link.Link.{Link}
-use Rattle.rsx_region.specs.Pieces.{StandsSince}
+use Rattle.rsx_region.specs.Pieces.{StandsSince, none_taken}
 use Rattle.rsx_region.specs.declared.piece.Piece.{Piece}
 use Rattle.rsx_runtime.specs.declared.tap.Tap.{Tap}
 use Rattle.rsx_graph_state.specs.Subscriptions.{AllStand}
@@ -42,7 +42,7 @@ module _ {M T : Type 0} (b : Machine M T) where
   -- one that had a piece came back
   pub came_away : (kept : Kept M T) (q : List (Signal T)) (i : ℕ) (ps ps' : List (Piece M T)) (ls ls' : List (Link T)) (ts ts' : List (Tap T)) (p : Piece M T) (l : Link T) (t : Tap T) (stopped : Bool) (sub : Subscription M T) →
       kept ≡ Away q i → ps ≡ p ∷ ps' → ls ≡ l ∷ ls' → ts ≡ t ∷ ts' → WasStopped t stopped →
-      ((m : Meaning T) (n k : ℕ) (before : Subscription M T) (opening : Piece M T) (made : Link T) → IsOutOf b before k opening made → IsTapFor before l t → StandsSince b m n opening p → StandsFor b m before t stopped sub) →
+      ((m : Meaning T) (n k : ℕ) (before : Subscription M T) (opening : Piece M T) (made : Link T) → IsOutOf b before k opening made → IsTapFor before l t → StandsSince b m (none_taken n) opening p → StandsFor b m before t stopped sub) →
       CameFirst b kept ps ls ts ps' ls' ts' sub
   came_away kept q i ps ps' ls ls' ts ts' p l t stopped sub is pe le te was stands =
       let first : HasFirst ps ls ts = record { pieces = ps'; links = ls'; taps = ts'; piece = p; link = l; tap = t; piece_first = pe; link_first = le; tap_first = te } in
@@ -164,7 +164,7 @@ module _ {M T : Type 0} (b : Machine M T) where
             let t = (firsts ts r.first.taps c.0.taps r.first.tap c.0.tap r.first.tap_first c.0.tap_first).0 in
             let L : Link T → Type 0 = λ x. IsTapFor s x r.first.tap in
             let R : Tap T → Type 0 = λ x. IsTapFor s c.0.link x in
-            let P : Piece M T → Type 0 = λ x. StandsSince b m n r.opening x in
+            let P : Piece M T → Type 0 = λ x. StandsSince b m (none_taken n) r.opening x in
             c.1.stands m n k s r.opening r.first.link r.out (subst R t (subst L l r.over)) (subst P p r.since))
       ]
 

@@ -1,6 +1,7 @@
 -- Trees that are cut further, and the region of each piece.
 use Rattle.std.specs.Prelude.{◌≡◌, ◌⊎◌, ◌+◌, ◌≤◌, ◌^◌, ℕ, zero, suc, Bool, true, false, List, [], ◌∷◌, ◌++◌, map, Option, Some, None, option_map, length, slice_get}
 use Rattle.std.proofs.Common.{Vec, Global}
+use Rattle.rsx_region.specs.Pieces.{none_taken}
 use Rattle.rsx_sources.specs.Prelude.{Meaning}
 use Rattle.rsx_sources.specs.declared.machine.Machine.{Ghosts as Machine}
 use Rattle.rsx_rooted.specs.declared.nodes.CrossingNodes.{Ghosts as CrossingNodes}
@@ -17,7 +18,7 @@ use Rattle.rsx_live.specs.declared.cutting.Cursor.{Cursor}
 -- Whatever the trees were cut from, with nothing done since, they are cut from that still, where there may be as many hubs and links as
 -- there are numbers.
 abbrev pub AreCutStill : {M T : Type 0} → Machine M T → CrossingNodes M T → CutTrees M T → CutTrees M T → Type 0
-AreCutStill {M} {T} b crossing old new = (m : Meaning T) (n : ℕ) (whole : Stage M T) → 2 ^ 32 ≤ n → AreCutFrom b crossing m n whole old → AreCutFrom b crossing m n whole new
+AreCutStill {M} {T} b crossing old new = (m : Meaning T) (n : ℕ) (whole : Stage M T) → 2 ^ 32 ≤ n → AreCutFrom b crossing m (none_taken n) whole old → AreCutFrom b crossing m (none_taken n) whole new
 
 -- ---- edges that cross
 

@@ -6,7 +6,7 @@ use Rattle.rsx_types.specs.declared.limits.TheConstants.{CAPACITY}
 use Rattle.rsx_sources.specs.declared.machine.Machine.{Ghosts as Machine}
 use Rattle.rsx_link.specs.Ends.{IsUpOf, capacity_of, carried_down}
 use Rattle.rsx_link.specs.declared.link.Link.{Link}
-use Rattle.rsx_region.specs.Pieces.{IsAt, StandsSince}
+use Rattle.rsx_region.specs.Pieces.{IsAt, StandsSince, none_taken}
 use Rattle.rsx_region.specs.declared.piece.Piece.{Piece}
 use Rattle.rsx_runtime.specs.Tapping.{IsTapOf}
 use Rattle.rsx_runtime.specs.declared.tap.Tap.{Tap}
@@ -136,7 +136,7 @@ module _ {M T : Type 0} where
   pub record Returned (b : Machine M T) {all_pieces : List (Piece M T)} {all_links : List (Link T)} {all_taps : List (Tap T)} (h : HasFirst all_pieces all_links all_taps) (ps : List (Piece M T)) (ls : List (Link T)) (ts : List (Tap T)) (sub : Subscription M T) : Type 0 where
     pub stopped : Bool
     pub was : WasStopped h.tap stopped
-    pub stands : (m : Meaning T) (n k : ℕ) (before : Subscription M T) (opening : Piece M T) (made : Link T) → IsOutOf b before k opening made → IsTapFor before h.link h.tap → StandsSince b m n opening h.piece → StandsFor b m before h.tap stopped sub
+    pub stands : (m : Meaning T) (n k : ℕ) (before : Subscription M T) (opening : Piece M T) (made : Link T) → IsOutOf b before k opening made → IsTapFor before h.link h.tap → StandsSince b m (none_taken n) opening h.piece → StandsFor b m before h.tap stopped sub
     pub left : (ps ≡ h.pieces) × (ls ≡ h.links) × (ts ≡ h.taps)
 
   abbrev pub CameFirst : Machine M T → Kept M T → List (Piece M T) → List (Link T) → List (Tap T) → List (Piece M T) → List (Link T) → List (Tap T) → Subscription M T → Type 0
@@ -152,7 +152,7 @@ module _ {M T : Type 0} where
     pub out : IsOutOf b s k opening first.link
     pub over : IsTapFor s first.link first.tap
     pub end : IsUpOf first.link first.piece.up
-    pub since : StandsSince b m n opening first.piece
+    pub since : StandsSince b m (none_taken n) opening first.piece
 
   -- so it is of each of the subscriptions that doesn't stay as it is
   abbrev pub AreBack : Machine M T → Meaning T → ℕ → ℕ → List (Subscription M T) → List (Kept M T) → List (Piece M T) → List (Link T) → List (Tap T) → Type 0

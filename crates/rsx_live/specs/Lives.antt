@@ -1,6 +1,7 @@
 -- Subscriptions that are live.
 use Rattle.std.specs.Prelude.{◌≡◌, ◌<◌, ◌^◌, ℕ, Bool, List, [], length}
 use Rattle.std.proofs.Common.{Vec, Global}
+use Rattle.rsx_region.specs.Pieces.{none_taken}
 use Rattle.rsx_sources.specs.Prelude.{Meaning, Stream}
 use Rattle.rsx_sources.specs.declared.machine.Machine.{Ghosts as Machine}
 use Rattle.rsx_rooted.specs.declared.nodes.CrossingNodes.{Ghosts as CrossingNodes}
@@ -31,14 +32,14 @@ module _ {M T : Type 0} where
     pub links : List (Link T)
     pub out : AreOut b 0 subs ks pieces links ts
     pub opening : Stage M T
-    pub since : HaveGoneSince b crossing m most_numbers (record { pieces = pieces; links = links }) opening trees
+    pub since : HaveGoneSince b crossing m (none_taken most_numbers) (none_taken most_numbers) (record { pieces = pieces; links = links }) opening trees
 
   -- the same, where nothing was done since they were cut
   pub record AreCutOut (b : Machine M T) (crossing : CrossingNodes M T) (m : Meaning T) (subs : List (Subscription M T)) (ks : List (Kept M T)) (ts : List (Tap T)) (trees : CutTrees M T) : Type 0 where
     pub pieces : List (Piece M T)
     pub links : List (Link T)
     pub out : AreOut b 0 subs ks pieces links ts
-    pub cut : AreCutFrom b crossing m most_numbers (record { pieces = pieces; links = links }) trees
+    pub cut : AreCutFrom b crossing m (none_taken most_numbers) (record { pieces = pieces; links = links }) trees
 
   -- So many links there are where the trees of the pieces that these subscriptions became, none of which was cut before, are cut at all
   -- edges at which they can be.

@@ -2,7 +2,7 @@
 
 ghost use Rattle.std.specs.Prelude.{◌≡◌, ◌+◌, ◌<◌, ◌≤◌, ◌^◌, ◌++◌, ◌∷◌, [], ℕ, List, Some, false, true, if◌then◌else◌, length, map, slice_get, IfOk, OnOk};
 ghost use Rattle.rsx_types.specs.Meaning.{Meaning};
-ghost use Rattle.rsx_region.specs.Pieces.{Each};
+ghost use Rattle.rsx_region.specs.Pieces.{Each, none_taken};
 ghost use Rattle.rsx_region.specs.Trees.{AreCutFrom, IsOneCut, IsReadUnder, SameStage, Stage, StaysWholeAt, stage_of};
 ghost use Rattle.rsx_live.specs.Cursors.{first_of, region_in, root_at, root_in};
 ghost use Rattle.rsx_live.specs.Cutting.{AreAllSwept, AreCutStill, CountsCrossing, IsCutOrWhole, IsSwept, crosses_at, sweep_of};
@@ -162,7 +162,7 @@ pub fn cut_all<N: CrossingNodes<Item = T> + Drop, T: Drop>(
     requires taps { length taps.now ≡ length trees.old.pieces.items }
     ensures places { IfOk result (λ v. (length v.items ≡ length trees.new.pieces.items) × Each (λ p. p < count) v.items) }
     ensures cut { IfOk result (λ v. AreAllSwept N.Machine N.CrossingNodes.own count senders.now roots.now taps.now trees.old trees.new v.items) }
-    ensures from { (m : Meaning T) (n : ℕ) (whole : Stage N T) → 2 ^ 32 ≤ n → AreCutFrom N.Machine N.CrossingNodes.own m n whole trees.old → AreCutFrom N.Machine N.CrossingNodes.own m n whole trees.new }
+    ensures from { (m : Meaning T) (n : ℕ) (whole : Stage N T) → 2 ^ 32 ≤ n → AreCutFrom N.Machine N.CrossingNodes.own m (none_taken n) whole trees.old → AreCutFrom N.Machine N.CrossingNodes.own m (none_taken n) whole trees.new }
 {
     let mut placed = Placed::of_taps(alloc, taps, roots, count)?;
     for above in 0..u32::MAX as usize {

@@ -3,6 +3,7 @@
 ghost use Rattle.std.specs.Prelude.{◌≡◌, ◌+◌, ◌<◌, ◌≤◌, ℕ, List, [], length, IfOk, OnErr, OnOk};
 ghost use Rattle.std.specs.List.{AllZip};
 ghost use Rattle.std.specs.Vec.{vec_capacity};
+ghost use Rattle.rsx_types.specs.Stream.{Stream};
 ghost use Rattle.rsx_gate.specs.Machine.{all_parts};
 ghost use Rattle.rsx_gate.specs.Seats.{IsSeatOf};
 ghost use Rattle.rsx_live.specs.Kept.{AreTapsFrom, CameBack, CanComeBack};
@@ -87,9 +88,9 @@ pub(crate) fn join_trees<N: CrossingNodes<Item = T> + Drop, T: Drop>(
     trees: &mut CutTrees<N, T>,
 ) -> Result<(), NotJoined>
     requires { CanBeJoined N.Machine N.CrossingNodes.own trees.old }
-    ensures whole { OnOk result ((m : Meaning T) (n : ℕ) (whole opening : Stage N T) → HaveGoneSince N.Machine N.CrossingNodes.own m n whole opening trees.old → HaveGoneSince N.Machine N.CrossingNodes.own m n whole whole trees.new) }
+    ensures whole { OnOk result ((m : Meaning T) (first hubs : List (Stream T)) (whole opening : Stage N T) → HaveGoneSince N.Machine N.CrossingNodes.own m first hubs whole opening trees.old → HaveGoneSince N.Machine N.CrossingNodes.own m first hubs whole whole trees.new) }
     ensures refused { OnErr result ((0 < length trees.new.edges.items) × LastCannotJoin N.Machine N.CrossingNodes.own trees.new) }
-    ensures since { (m : Meaning T) (n : ℕ) (whole opening : Stage N T) → HaveGoneSince N.Machine N.CrossingNodes.own m n whole opening trees.old → (before : Stage N T) × HaveGoneSince N.Machine N.CrossingNodes.own m n whole before trees.new }
+    ensures since { (m : Meaning T) (first hubs : List (Stream T)) (whole opening : Stage N T) → HaveGoneSince N.Machine N.CrossingNodes.own m first hubs whole opening trees.old → (before : Stage N T) × HaveGoneSince N.Machine N.CrossingNodes.own m first hubs whole before trees.new }
 {
     let joined = trees.join_all();
     // With no edge left, they are joined.

@@ -5,7 +5,7 @@ ghost use Rattle.rsx_link.specs.Ends.{IsUpOf, capacity_of};
 ghost use Rattle.rsx_live.specs.Outgoing.{IsOutOf, IsTapFor};
 ghost use Rattle.rsx_live.specs.Returning.{IsBackOf, IsPutInto, StandsAs, StandsFor, WasStopped, lived_state};
 ghost use Rattle.rsx_pipe.specs.Part.{all_edges};
-ghost use Rattle.rsx_region.specs.Pieces.{StandsSince};
+ghost use Rattle.rsx_region.specs.Pieces.{StandsSince, none_taken};
 ghost use Rattle.rsx_region.specs.declared.piece.Piece.{Piece as PieceSpec};
 ghost use Rattle.rsx_runtime.specs.Tapping.{IsTapOf};
 ghost use Rattle.rsx_subscriber.specs.Standing.{live_in, standing};
@@ -39,7 +39,7 @@ pub fn come_back<N: Nodes<Item = T> + Drop, T: Drop>(
     ensures back { IsBackOf N.Machine piece tap result.1 result.0 }
     ensures stopped { WasStopped tap result.1 }
     ensures stands { (m : Meaning T) (n number : ℕ) (was : SubscriptionSpec N T) (opening : PieceSpec N T) (made : LinkSpec T) →
-        IsOutOf N.Machine was number opening made → IsTapFor was link tap → StandsSince N.Machine m n opening piece → StandsFor N.Machine m was tap result.1 result.0 }
+        IsOutOf N.Machine was number opening made → IsTapFor was link tap → StandsSince N.Machine m (none_taken n) opening piece → StandsFor N.Machine m was tap result.1 result.0 }
 {
     let Piece { mut part, up, .. } = piece;
     let TapEnds {

@@ -39,7 +39,7 @@ use Rattle.rsx_region.proofs.EdgePlaces.{same_some}
 use Rattle.rsx_region.proofs.Rejoining.{can_join_is, ended_row}
 use Rattle.rsx_region.proofs.Wholes.{lets_go_over}
 use Rattle.rsx_region.specs.Joins.{CanEnd, CanGoOn, HaveGone, IsCutFrom, IsJoinedBy, IsJoinedEnded, IsJoinedGoing, IsPutAt, IsShut, IsShutUnless}
-use Rattle.rsx_region.specs.Pieces.{Each, StandsSince, came_of, hub_of, numbers_of, taken_by, taken_of}
+use Rattle.rsx_region.specs.Pieces.{Each, IsBlankAt, StandsSince, came_of, hub_of, numbers_of, taken_by, taken_of}
 use Rattle.rsx_region.specs.Halves.{Halves}
 use Rattle.rsx_region.specs.declared.piece.Incoming.{Incoming}
 use Rattle.rsx_region.specs.declared.piece.Piece.{Piece}
@@ -169,8 +169,8 @@ shut_inputs p = record p { tree = record p.tree { inputs = closed_row p.tree.inp
 
 -- ---- what is known of the halves, and of the piece
 
-module _ {M T : Type 0} (b : Machine M T) (crossing : CrossingNodes M T) (holds : HoldsLaw b crossing) (m : Meaning T) (n : ℕ) (was : Piece M T) (opening now : Halves M T) (p : Piece M T) (last : Incoming T)
-    (cut : IsCutFrom b crossing was opening) (gone : HaveGone b m n opening now) (ws : StandsSince b m n was was) (ins : now.upper.inlets.items ≡ p.inlets.items ++ last ∷ []) where
+module _ {M T : Type 0} (b : Machine M T) (crossing : CrossingNodes M T) (holds : HoldsLaw b crossing) (m : Meaning T) (first hubs : List (Stream T)) (was : Piece M T) (opening now : Halves M T) (p : Piece M T) (last : Incoming T)
+    (cut : IsCutFrom b crossing was opening) (gone : HaveGone b m hubs opening now) (ws : StandsSince b m first was was) (ins : now.upper.inlets.items ≡ p.inlets.items ++ last ∷ []) where
   abbrev others : List (Incoming T)
   others = p.inlets.items
 
@@ -178,13 +178,13 @@ module _ {M T : Type 0} (b : Machine M T) (crossing : CrossingNodes M T) (holds 
   k = hub_of cut.inlet
 
   abbrev ta : List (Stream T)
-  ta = taken_of n now.upper
+  ta = taken_of hubs now.upper
 
   abbrev tb : List (Stream T)
-  tb = taken_of n now.lower
+  tb = taken_of hubs now.lower
 
   abbrev whole : List (Stream T)
-  whole = taken_of n p
+  whole = taken_of hubs p
 
   numbers : (map numbers_of others ≡ map numbers_of was.inlets.items) × (numbers_of last ≡ numbers_of cut.inlet)
   numbers = snoc_parts numbers_of others was.inlets.items last cut.inlet (sym (ap (map numbers_of) ins) ∙ (gone.upper.links.1 ∙ ap (map numbers_of) cut.ins))
@@ -219,8 +219,15 @@ module _ {M T : Type 0} (b : Machine M T) (crossing : CrossingNodes M T) (holds 
   others_apart = each_shown numbers_of (λ (i : Incoming T). hub_of i ≡ k → ⊥) was.inlets.items others numbers.0
       (λ x y same h e. let hub : hub_of y ≡ hub_of x = ap (λ (q : ℕ × ℕ × ℕ). q.1) same in h (sym hub ∙ e)) cut.apart
 
+  -- the link between them, and the others, have no value among those of the hubs
+  blank_there : IsBlankAt hubs k
+  blank_there = subst (IsBlankAt hubs) hub_is (gone.upper.blank (length others) last last_there)
+
+  blanks : Each (λ (i : Incoming T). IsBlankAt hubs (hub_of i)) others
+  blanks j i at = gone.upper.blank j i (ap (λ l. slice_get l j) ins ∙ get_front others (last ∷ []) j i at)
+
   shared : (upper t : Node M) → AllGoOn (readings b opening.lower.part.tree) (readings b t) → AreShared b k ta tb whole (received_signals last.inlet.down) upper t
-  shared upper t go = are_shared b n others last k ta tb whole upper t hub_is (ap (λ l. taken_by stream_of [] n (map came_of l)) ins) (ap (λ l. taken_by stream_of [] n (map came_of l)) none_below) refl came (others_free t go)
+  shared upper t go = are_shared b hubs others last k ta tb whole upper t hub_is (ap (λ l. taken_by stream_of hubs (map came_of l)) ins) (ap (λ l. taken_by stream_of hubs (map came_of l)) none_below) blank_there blanks refl came (others_free t go)
 
   counts : carried_up now.upper.up + items_in (sent_signals was.up) ≡ was.part.root.demand.sent
   counts = ap (λ c. c + items_in (sent_signals was.up)) (gone.upper.carried ∙ ap carried_up cut.up) ∙ sym ws.part.step.sent
@@ -249,18 +256,19 @@ module _ {M T : Type 0} (b : Machine M T) (crossing : CrossingNodes M T) (holds 
   beside x xs place pos there alone apart free q is j i at =
       let ne = others_apart j i at in
       let up_there : slice_get now.upper.inlets.items j ≡ Some i = ap (λ l. slice_get l j) ins ∙ get_front others (last ∷ []) j i at in
-      let same : slice_get whole (hub_of i) ≡ slice_get ta (hub_of i) = elsewhere n others last k (hub_of i) hub_is ne ∙ ap (λ l. slice_get (taken_by stream_of [] n (map came_of l)) (hub_of i)) (sym ins) in
+      let same : slice_get whole (hub_of i) ≡ slice_get ta (hub_of i) = elsewhere hubs others last k (hub_of i) hub_is ne ∙ ap (λ l. slice_get (taken_by stream_of hubs (map came_of l)) (hub_of i)) (sym ins) in
       subst (λ z. InletStands b whole z i.inlet) (sym is)
       (beside_stands b ta whole now.upper.part now.at x xs place (hub_of i) i.inlet.down i.inlet.closer pos there alone (apart (hub_of i) ne) (free i j at) same (gone.upper.ins j i up_there))
 
   -- ---- what all comes to
 
-  assembled : IsJoinedBy now.upper p → p.up ≡ now.upper.up → PieceStands b m whole was.part.tree (sent_signals was.up) p.part now.upper.up → Each (λ (i : Incoming T). InletStands b whole p.part i.inlet) others → StandsSince b m n was p
+  assembled : IsJoinedBy now.upper p → p.up ≡ now.upper.up → PieceStands b m whole was.part.tree (sent_signals was.up) p.part now.upper.up → Each (λ (i : Incoming T). InletStands b whole p.part i.inlet) others → StandsSince b m hubs was p
   assembled j up part each = record {
     links = (j.link ∙ (gone.upper.links.0 ∙ cut.link), numbers.0);
     carried = ap carried_up up ∙ (gone.upper.carried ∙ ap carried_up cut.up);
     part = subst (λ u. PieceStands b m whole was.part.tree (sent_signals was.up) p.part u) (sym up) part;
     ins = each;
+    blank = blanks;
   }
 
   -- ---- the lower half, below the edge
@@ -417,7 +425,7 @@ module _ {M T : Type 0} (b : Machine M T) (crossing : CrossingNodes M T) (holds 
 
     -- no ending was sent
     back_going : JoinsWhole b crossing → (there : Station M) → station_of now.upper.part.tree (edge_view now.upper.part.root) now.at ≡ Some there → (low : Part M) → IsUnder there low → (remaining : List (Signal T)) (items : List T) → received ++ remaining ≡ sent_signals now.lower.up → remaining ≡ map Next items →
-        IsPutAt b crossing now.upper.part now.at k items low p.part → StandsSince b m n was p
+        IsPutAt b crossing now.upper.part now.at k items low p.part → StandsSince b m hubs was p
     back_going law there is low u remaining items all rem put =
         let done = put u.straight in
         let signals : map Next came_items.items ++ map Next items ≡ map Next cut.queue ++ u.out = ap (λ l. l ++ map Next items) (sym came_items.are) ∙ (ap (λ l. received ++ l) (sym rem) ∙ (all ∙ u.sent)) in
@@ -428,7 +436,7 @@ module _ {M T : Type 0} (b : Machine M T) (crossing : CrossingNodes M T) (holds 
 
     -- one was, and is put back
     back_ended : JoinsWholeEnded b crossing → (there : Station M) → station_of now.upper.part.tree (edge_view now.upper.part.root) now.at ≡ Some there → (low : Part M) → IsUnderEnded there low → (remaining : List (Signal T)) (items : List T) (s : Signal T) (rest : List (Signal T)) (kept : Part M) → received ++ remaining ≡ sent_signals now.lower.up → remaining ≡ map Next items ++ s ∷ rest → ends_input s ≡ true →
-        ((l : Meaning T) (before : Part M) → IsSentOut b l before s low → kept ≡ before) → IsPutAt b crossing now.upper.part now.at k items kept p.part → StandsSince b m n was p
+        ((l : Meaning T) (before : Part M) → IsSentOut b l before s low → kept ≡ before) → IsPutAt b crossing now.upper.part now.at k items kept p.part → StandsSince b m hubs was p
     back_ended law there is low u remaining items s rest kept all rem ends put_back put =
         let eq : (received ++ map Next items) ++ s ∷ rest ≡ (map Next cut.queue ++ u.out) ++ u.ending ∷ [] = append_assoc received (map Next items) (s ∷ rest) ∙ (ap (λ l. received ++ l) (sym rem) ∙ (all ∙ u.sent)) in
         let end = the_last (received ++ map Next items) (map Next cut.queue ++ u.out) s u.ending rest ends (queue_unended u.out u.unended) eq in
@@ -454,7 +462,7 @@ module _ {M T : Type 0} (b : Machine M T) (crossing : CrossingNodes M T) (holds 
         of Ended is = absurd (unended is)
 
     -- the reader was there still
-    pub joined_on : JoinsWhole b crossing → JoinsWholeEnded b crossing → CanGoOn b crossing now.upper.part now.at last now.lower.part → IsJoinedGoing b crossing now.upper.part now.at last now.lower p.part → StandsSince b m n was p
+    pub joined_on : JoinsWhole b crossing → JoinsWholeEnded b crossing → CanGoOn b crossing now.upper.part now.at last now.lower.part → IsJoinedGoing b crossing now.upper.part now.at last now.lower p.part → StandsSince b m hubs was p
     joined_on law ended_law can g = of now.lower.part.root.state refl
       where
         at_link : (low : Part M) → IsPutAt b crossing now.upper.part now.at (hub_of last) g.put.0 low p.part → IsPutAt b crossing now.upper.part now.at k g.put.0 low p.part
@@ -463,7 +471,7 @@ module _ {M T : Type 0} (b : Machine M T) (crossing : CrossingNodes M T) (holds 
         goes : is_live g.there.state ≡ true → now.lower.part.root.state ≡ Closed → ⊥
         goes live = can.goes_on (ap (λ (s : Station M). is_live s.state) (same_some _ _ (sym can.is ∙ g.is)) ∙ live)
 
-        still : (now.lower.part.root.state ≡ Ended → ⊥) → StandsSince b m n was p
+        still : (now.lower.part.root.state ≡ Ended → ⊥) → StandsSince b m hubs was p
         still unended = elim g.put.1 [
           | inl x ↦ back_going law g.there g.is g.below (all_under g.there g.below (is_live g.there.state) refl g.shut unended goes) g.remaining g.put.0 g.all x.0 (at_link g.below x.1)
           | inr x ↦
@@ -472,7 +480,7 @@ module _ {M T : Type 0} (b : Machine M T) (crossing : CrossingNodes M T) (holds 
               absurd (no_ending (received ++ map Next g.put.0) x.0 x.1 x.4 (subst U (sym eq) (queue_unended below.out (out_unended unended))))
         ]
 
-        of : (s : EdgeState) → now.lower.part.root.state ≡ s → StandsSince b m n was p
+        of : (s : EdgeState) → now.lower.part.root.state ≡ s → StandsSince b m hubs was p
         of Live is = still (λ e. let no : Live ≡ Ended = sym is ∙ e in cc)
         of Closed is = still (λ e. let no : Closed ≡ Ended = sym is ∙ e in cc)
         of Ended is =
@@ -504,7 +512,7 @@ module _ {M T : Type 0} (b : Machine M T) (crossing : CrossingNodes M T) (holds 
 
   pub joined_over : ((n : M) (r : Reading) → b.reads n ≡ Some r → crossing.read_to n ≡ None) →
       ((l : Meaning T) (e : Ending) (q : List T) (s : Signal T) (before n : M) → b.crosses n ≡ false → endings e ≡ s ∷ [] → b.waiting l before ≡ Some s → LetsGo (b.comes_out l) before s n → HoldsEnding b l (crossing.ended_queue e q n) (map Next q ++ s ∷ []) n) →
-      JoinsWholeAtEnd b crossing → IsJoinedBy now.upper p → p.up ≡ now.upper.up → CanEnd b crossing now.upper.part now.at last now.lower.part → IsJoinedEnded b crossing now.upper.part now.at last now.lower p.part → StandsSince b m n was p
+      JoinsWholeAtEnd b crossing → IsJoinedBy now.upper p → p.up ≡ now.upper.up → CanEnd b crossing now.upper.part now.at last now.lower.part → IsJoinedEnded b crossing now.upper.part now.at last now.lower p.part → StandsSince b m hubs was p
   joined_over reads_still ends_law law j up can g =
       let u = all_ended g.there g.below (is_live g.there.state) refl g.shut can.over in
       let e = can.ending in

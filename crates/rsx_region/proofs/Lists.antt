@@ -92,13 +92,13 @@ replaced_apart zero (suc j) a b (x ∷ xs) n = refl
 replaced_apart (suc h) zero a b (x ∷ xs) n = refl
 replaced_apart (suc h) (suc j) a b (x ∷ xs) n = ap (λ l. x ∷ l) (replaced_apart h j a b xs (λ e. n (ap suc e)))
 
-pub taken_set : {A B : Type 0} (f : B → A) (d : B) (n : ℕ) (cs : List (ℕ × B)) (i : ℕ) (old new : ℕ × B) → AreApart (map (λ (c : ℕ × B). c.0) cs) → slice_get cs i ≡ Some old → new.0 ≡ old.0 →
-    taken_by f d n (slice_set cs i new) ≡ replaced_at new.0 (f new.1) (taken_by f d n cs)
-taken_set f d n [] i old new a e h = cc
-taken_set {A} {B} f d n (c ∷ cs) zero old new a e h =
+pub taken_set : {A B : Type 0} (f : B → A) (values : List A) (cs : List (ℕ × B)) (i : ℕ) (old new : ℕ × B) → AreApart (map (λ (c : ℕ × B). c.0) cs) → slice_get cs i ≡ Some old → new.0 ≡ old.0 →
+    taken_by f values (slice_set cs i new) ≡ replaced_at new.0 (f new.1) (taken_by f values cs)
+taken_set f values [] i old new a e h = cc
+taken_set {A} {B} f values (c ∷ cs) zero old new a e h =
     let here : c.0 ≡ new.0 = ap (λ (x : ℕ × B). x.0) (let q : c ≡ old = cc in q) ∙ sym h in
-    sym (ap (λ k. replaced_at new.0 (f new.1) (replaced_at k (f c.1) (taken_by f d n cs))) here ∙ replaced_twice new.0 (f new.1) (f c.1) (taken_by f d n cs))
-taken_set {A} {B} f d n (c ∷ cs) (suc i) old new a e h =
+    sym (ap (λ k. replaced_at new.0 (f new.1) (replaced_at k (f c.1) (taken_by f values cs))) here ∙ replaced_twice new.0 (f new.1) (f c.1) (taken_by f values cs))
+taken_set {A} {B} f values (c ∷ cs) (suc i) old new a e h =
     let first = λ (x : ℕ × B). x.0 in
     let apart : c.0 ≡ new.0 → ⊥ = λ q. apart_first c.0 i old.0 (map first cs) a (get_map first cs i old e) (sym h ∙ sym q) in
-    ap (replaced_at c.0 (f c.1)) (taken_set f d n cs i old new (apart_rest c.0 (map first cs) a) e h) ∙ replaced_apart c.0 new.0 (f c.1) (f new.1) (taken_by f d n cs) apart
+    ap (replaced_at c.0 (f c.1)) (taken_set f values cs i old new (apart_rest c.0 (map first cs) a) e h) ∙ replaced_apart c.0 new.0 (f c.1) (f new.1) (taken_by f values cs) apart

@@ -31,11 +31,12 @@ use Rattle.rsx_region.proofs.Openings.{opens}
 use Rattle.rsx_region.proofs.EdgePlaces.{IsThere, place_below, same_some, with_below}
 use Rattle.rsx_region.specs.Cuts.{AsksAsMuch, HasTakenNothing}
 use Rattle.rsx_region.specs.Joins.{IsCutFrom}
-use Rattle.rsx_region.specs.Pieces.{Each, StandsSince, came_of, hub_of, taken_by, taken_of}
+use Rattle.rsx_region.specs.Pieces.{Each, IsBlankAt, StandsSince, came_of, hub_of, taken_by, taken_of}
 use Rattle.rsx_region.specs.Halves.{Halves}
 use Rattle.rsx_region.specs.declared.piece.Incoming.{Incoming}
 use Rattle.rsx_region.specs.declared.piece.Piece.{Piece}
 use Rattle.rsx_region.proofs.Beside.{apart_false, begun_free, none_edge, none_free, reached_free, read_there, row_edge_put}
+use Rattle.rsx_region.proofs.Comes.{replaced_same}
 use Rattle.rsx_region.proofs.Cuts.{true_of}
 
 -- ---- a splice undone
@@ -86,21 +87,11 @@ each_left P (suc c) low (u ∷ us) r at own a = (a.0, each_left P c low us r at 
 
 -- ---- nothing came
 
-replaced_there : {A : Type 0} (h n : ℕ) (a : A) → replaced_at h a (replicate n a) ≡ replicate n a
-replaced_there h zero a = refl
-replaced_there zero (suc n) a = refl
-replaced_there (suc h) (suc n) a = ap (λ l. a ∷ l) (replaced_there h n a)
-
-taken_nothing : {T : Type 0} (n : ℕ) (is : List (Incoming T)) → Each (λ (i : Incoming T). received_signals i.inlet.down ≡ []) is → taken_by stream_of [] n (map came_of is) ≡ replicate n (stream_of [])
-taken_nothing n [] none = refl
-taken_nothing {T} n (i ∷ is) none =
-    ap (λ s. replaced_at (hub_of i) (stream_of s) (taken_by stream_of [] n (map came_of is))) (none 0 i refl)
-    ∙ (ap (replaced_at (hub_of i) (stream_of [])) (taken_nothing n is (λ k j at. none (suc k) j at)) ∙ replaced_there (hub_of i) n (stream_of []))
-
-replicate_there : {A : Type 0} (n k : ℕ) (a : A) → k < n → slice_get (replicate n a) k ≡ Some a
-replicate_there zero k a w = absurd (omega (arith, w))
-replicate_there (suc n) zero a w = refl
-replicate_there (suc n) (suc k) a w = replicate_there n k a (omega (arith, w))
+taken_nothing : {T : Type 0} (hubs : List (Stream T)) (is : List (Incoming T)) → Each (λ (i : Incoming T). IsBlankAt hubs (hub_of i)) is → Each (λ (i : Incoming T). received_signals i.inlet.down ≡ []) is → taken_by stream_of hubs (map came_of is) ≡ hubs
+taken_nothing hubs [] blank none = refl
+taken_nothing {T} hubs (i ∷ is) blank none =
+    ap (λ s. replaced_at (hub_of i) (stream_of s) (taken_by stream_of hubs (map came_of is))) (none 0 i refl)
+    ∙ (ap (replaced_at (hub_of i) (stream_of [])) (taken_nothing hubs is (λ k j at. blank (suc k) j at) (λ k j at. none (suc k) j at)) ∙ replaced_same (hub_of i) (stream_of []) hubs (blank 0 i refl))
 
 all_same : {T : Type 0} {M : Type 0} (b : Machine M T) (k : ℕ) (ones others : List (Stream T)) (t : Node M) → others ≡ ones → AgreesOn b k ones others t
 all_same b k ones others t same = of (readings b t)
@@ -140,45 +131,46 @@ capped e = least e.demand.asked e.demand.bounded
 
 -- ---- both halves stand
 
-module _ {M T : Type 0} (b : Machine M T) (crossing : CrossingNodes M T) (holds : HoldsLaw b crossing) (m : Meaning T) (n : ℕ) (was : Piece M T) (h : Halves M T) (edge : Edge)
-    (cut : IsCutFrom b crossing was h) (begun : IsBegun b edge h cut.inlet) (within : hub_of cut.inlet < n) (nothing : HasTakenNothing was) (ws : StandsSince b m n was was) where
+module _ {M T : Type 0} (b : Machine M T) (crossing : CrossingNodes M T) (holds : HoldsLaw b crossing) (m : Meaning T) (hubs : List (Stream T)) (was : Piece M T) (h : Halves M T) (edge : Edge)
+    (cut : IsCutFrom b crossing was h) (begun : IsBegun b edge h cut.inlet) (within : IsBlankAt hubs (hub_of cut.inlet)) (nothing : HasTakenNothing was) (ws : StandsSince b m hubs was was) where
   abbrev k : ℕ
   k = hub_of cut.inlet
-
-  abbrev blank : List (Stream T)
-  blank = replicate n (stream_of [])
 
   nothing_above : HasTakenNothing h.upper
   nothing_above = subst (Each (λ (i : Incoming T). received_signals i.inlet.down ≡ [])) (sym cut.ins) (each_more (λ (i : Incoming T). received_signals i.inlet.down ≡ []) was.inlets.items cut.inlet nothing begun.none)
 
-  blank_was : taken_of n was ≡ blank
-  blank_was = taken_nothing n was.inlets.items nothing
+  blank_was : taken_of hubs was ≡ hubs
+  blank_was = taken_nothing hubs was.inlets.items ws.blank nothing
 
-  blank_above : taken_of n h.upper ≡ blank
-  blank_above = taken_nothing n h.upper.inlets.items nothing_above
+  blanks_above : Each (λ (i : Incoming T). IsBlankAt hubs (hub_of i)) h.upper.inlets.items
+  blanks_above = subst (Each (λ (i : Incoming T). IsBlankAt hubs (hub_of i))) (sym cut.ins) (each_more (λ (i : Incoming T). IsBlankAt hubs (hub_of i)) was.inlets.items cut.inlet ws.blank within)
 
-  blank_below : taken_of n h.lower ≡ blank
-  blank_below = ap (λ l. taken_by stream_of [] n (map came_of l)) cut.none
+  blank_above : taken_of hubs h.upper ≡ hubs
+  blank_above = taken_nothing hubs h.upper.inlets.items blanks_above nothing_above
+
+  blank_below : taken_of hubs h.lower ≡ hubs
+  blank_below = ap (λ l. taken_by stream_of hubs (map came_of l)) cut.none
 
   root_live : was.part.root.state ≡ Live
   root_live = root_of_live was.part h.at (cut_live b crossing was.part h.upper.part h.lower.part h.at cut.reader cut.queue cut.cut.cut)
 
-  reading : IsTreeReadAt b (counts_in (taken_of n h.upper)) h.upper.part.tree × IsTreeReadAt b (counts_in (taken_of n h.lower)) h.lower.part.tree
-  reading = cuts_reading b crossing holds m was.part h.upper.part h.lower.part h.at k cut.before cut.reader cut.queue (taken_of n was) (taken_of n h.upper) (taken_of n h.lower) cut.cut.cut cut.cut.reads cut.cut.free
-      (ap (λ l. slice_get l k) blank_above ∙ replicate_there n k (stream_of []) within)
-      (all_same b k (taken_of n was) (taken_of n h.upper) was.part.tree (blank_above ∙ sym blank_was))
-      (all_same b k (taken_of n was) (taken_of n h.lower) was.part.tree (blank_below ∙ sym blank_was))
+  reading : IsTreeReadAt b (counts_in (taken_of hubs h.upper)) h.upper.part.tree × IsTreeReadAt b (counts_in (taken_of hubs h.lower)) h.lower.part.tree
+  reading = cuts_reading b crossing holds m was.part h.upper.part h.lower.part h.at k cut.before cut.reader cut.queue (taken_of hubs was) (taken_of hubs h.upper) (taken_of hubs h.lower) cut.cut.cut cut.cut.reads cut.cut.free
+      (ap (λ l. slice_get l k) blank_above ∙ within)
+      (all_same b k (taken_of hubs was) (taken_of hubs h.upper) was.part.tree (blank_above ∙ sym blank_was))
+      (all_same b k (taken_of hubs was) (taken_of hubs h.lower) was.part.tree (blank_below ∙ sym blank_was))
       (ws.part.live root_live).reads
 
-  lower_stands : StandsSince b m n h.lower h.lower
+  lower_stands : StandsSince b m hubs h.lower h.lower
   lower_stands = record {
     links = (refl, refl);
     carried = refl;
-    part = opens b m (taken_of n h.lower) h.lower.part h.lower.up begun.live (record {
+    part = opens b m (taken_of hubs h.lower) h.lower.part h.lower.up begun.live (record {
       asked = begun.asked ∙ (capped edge ∙ ap (min UNBOUNDED) (sym begun.seen));
       sent = sym cut.cut.counted ∙ (ap (λ c. c + length cut.queue) (sym cut.carried) ∙ ap (λ c. carried_up h.lower.up + c) (sym (ap items_in cut.sent ∙ items_next cut.queue)));
     }) reading.1;
-    ins = subst (Each (λ (i : Incoming T). InletStands b (taken_of n h.lower) h.lower.part i.inlet)) (sym cut.none) (λ j i at. cc);
+    ins = subst (Each (λ (i : Incoming T). InletStands b (taken_of hubs h.lower) h.lower.part i.inlet)) (sym cut.none) (λ j i at. cc);
+    blank = subst (Each (λ (i : Incoming T). IsBlankAt hubs (hub_of i))) (sym cut.none) (λ j i at. cc);
   }
 
   -- ---- the upper half
@@ -220,7 +212,7 @@ module _ {M T : Type 0} (b : Machine M T) (crossing : CrossingNodes M T) (holds 
   reads_no_other : (i : ℕ) → (i ≡ k → ⊥) → reads_hub i (b.reads cut.reader) ≡ false
   reads_no_other i ne = ap (reads_hub i) cut.cut.reads.reads ∙ apart_false k i (λ e. ne (sym e))
 
-  new_link : InletStands b (taken_of n h.upper) h.upper.part cut.inlet.inlet
+  new_link : InletStands b (taken_of hubs h.upper) h.upper.part cut.inlet.inlet
   new_link =
       let free = cut.cut.free in
       let A : List (Option Reading) → Type 0 = λ l. AllOf (λ i. i ≡ k → ⊥) l in
@@ -230,7 +222,7 @@ module _ {M T : Type 0} (b : Machine M T) (crossing : CrossingNodes M T) (holds 
       let P : Option Reading → Type 0 = λ o. IsReachedAt k 0 o in
       let Q : Option Reading → Type 0 = λ o. IsBegunAt k cut.before o in
       record {
-        came = ap (λ l. slice_get l k) blank_above ∙ (replicate_there n k (stream_of []) within ∙ ap (λ s. Some (stream_of s)) (sym begun.none));
+        came = ap (λ l. slice_get l k) blank_above ∙ (within ∙ ap (λ s. Some (stream_of s)) (sym begun.none));
         one = one_alone k h.at low (readings b h.upper.part.tree) (b.reads cut.reader) reads_there reads_one (none_free k (splice h.at low (readings b h.upper.part.tree)) all);
         reached = subst R (sym (ap items_in begun.none)) (each_left (IsReachedAt k 0) h.at low (readings b h.upper.part.tree) (b.reads cut.reader) reads_there (subst P (sym cut.cut.reads.reads) (λ _. refl)) (reached_free k 0 (splice h.at low (readings b h.upper.part.tree)) all));
         began = subst B (sym cut.taken) (each_left (IsBegunAt k cut.before) h.at low (readings b h.upper.part.tree) (b.reads cut.reader) reads_there (subst Q (sym cut.cut.reads.reads) (λ _. (refl, refl))) (begun_free k cut.before (splice h.at low (readings b h.upper.part.tree)) all));
@@ -239,7 +231,7 @@ module _ {M T : Type 0} (b : Machine M T) (crossing : CrossingNodes M T) (holds 
       }
 
   -- a link that came in before
-  old_link : (i : Incoming T) → (hub_of i ≡ k → ⊥) → ReadsNot b (hub_of i) h.lower.part.tree → InletStands b (taken_of n was) was.part i.inlet → InletStands b (taken_of n h.upper) h.upper.part i.inlet
+  old_link : (i : Incoming T) → (hub_of i ≡ k → ⊥) → ReadsNot b (hub_of i) h.lower.part.tree → InletStands b (taken_of hubs was) was.part i.inlet → InletStands b (taken_of hubs h.upper) h.upper.part i.inlet
   old_link i ne free st =
       let g = hub_of i in
       let got = items_in (received_signals i.inlet.down) in
@@ -269,19 +261,20 @@ module _ {M T : Type 0} (b : Machine M T) (crossing : CrossingNodes M T) (holds 
         cancelled = λ e is many. st.cancelled e (sym edge_same ∙ is) many;
       }
 
-  upper_stands : StandsSince b m n h.upper h.upper
+  upper_stands : StandsSince b m hubs h.upper h.upper
   upper_stands =
       let root : h.upper.part.root ≡ was.part.root = ap (λ q. q.root) cut.cut.cut.upper in
-      let I : Incoming T → Type 0 = λ i. InletStands b (taken_of n h.upper) h.upper.part i.inlet in
+      let I : Incoming T → Type 0 = λ i. InletStands b (taken_of hubs h.upper) h.upper.part i.inlet in
       record {
         links = (refl, refl);
         carried = refl;
-        part = opens b m (taken_of n h.upper) h.upper.part h.upper.up (ap (λ (e : Edge). e.state) root ∙ root_live) (record {
+        part = opens b m (taken_of hubs h.upper) h.upper.part h.upper.up (ap (λ (e : Edge). e.state) root ∙ root_live) (record {
           asked = ap (λ (e : Edge). e.demand.asked) root ∙ (ws.part.step.asked ∙ ap (λ u. min UNBOUNDED (seen_total u)) (sym cut.up));
           sent = ap (λ (e : Edge). e.demand.sent) root ∙ (ws.part.step.sent ∙ ap items_sent (sym cut.up));
         }) reading.0;
         ins = subst (Each I) (sym cut.ins) (each_more I was.inlets.items cut.inlet (λ j i there_i. old_link i (cut.apart j i there_i) (cut.free j i there_i) (ws.ins j i there_i)) new_link);
+        blank = blanks_above;
       }
 
-  pub both_stand : StandsSince b m n h.upper h.upper × StandsSince b m n h.lower h.lower
+  pub both_stand : StandsSince b m hubs h.upper h.upper × StandsSince b m hubs h.lower h.lower
   both_stand = (upper_stands, lower_stands)

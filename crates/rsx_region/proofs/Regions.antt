@@ -1,7 +1,7 @@
 -- Many pieces, of which one was served.
 use Rattle.std.proofs.Common.{◌≡◌, inl, inr, ℕ, ◌+◌, List, [], ◌∷◌, ◌++◌, refl, sym, ap, ◌∙◌, subst, Some, slice_get, slice_set}
 use Rattle.std.proofs.lemmas.List.{length-set}
-use Rattle.rsx_sources.specs.Prelude.{Meaning}
+use Rattle.rsx_sources.specs.Prelude.{Meaning, Stream}
 use Rattle.rsx_sources.specs.declared.machine.Machine.{Ghosts as Machine}
 use Rattle.rsx_tree.specs.Runs.{Leads}
 use Rattle.rsx_tree.proofs.Runs.{leads_on}
@@ -39,13 +39,13 @@ region_goes_then b m links i j k l x y p q r ex ey g h = record {
   run = leads_on (IsStepOfOne b m links) p q r g.labels h.labels g.run h.run;
 }
 
-pub region_stands_one : {M T : Type 0} (b : Machine M T) (m : Meaning T) (n : ℕ) (opening ps : List (Piece M T)) (at : ℕ) (was is : Piece M T) → slice_get ps at ≡ Some was →
-    ((o : Piece M T) → StandsSince b m n o was → StandsSince b m n o is) → RegionStands b m n opening ps → RegionStands b m n opening (slice_set ps at is)
-region_stands_one {M} {T} b m n opening ps at was is there keeps h = record {
+pub region_stands_one : {M T : Type 0} (b : Machine M T) (m : Meaning T) (hubs : List (Stream T)) (opening ps : List (Piece M T)) (at : ℕ) (was is : Piece M T) → slice_get ps at ≡ Some was →
+    ((o : Piece M T) → StandsSince b m hubs o was → StandsSince b m hubs o is) → RegionStands b m hubs opening ps → RegionStands b m hubs opening (slice_set ps at is)
+region_stands_one {M} {T} b m hubs opening ps at was is there keeps h = record {
   count = length-set ps at is ∙ h.count;
   each = λ k o p first now. elim (set_cases ps at k is p now) [
     | inl s ↦
-        let P : Piece M T → Type 0 = λ q. StandsSince b m n o q in
+        let P : Piece M T → Type 0 = λ q. StandsSince b m hubs o q in
         let K : ℕ → Type 0 = λ j. slice_get opening j ≡ Some o in
         subst P (sym s.1) (keeps o (h.each at o was (subst K s.0 first) there))
     | inr s ↦ h.each k o p first s.1

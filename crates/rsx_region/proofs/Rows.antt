@@ -5,7 +5,7 @@ use Rattle.std.proofs.lemmas.Option.{slice_get-get_or, slice_get_within}
 use Rattle.std.specs.Option.{option_to_list}
 use Rattle.std.specs.Prelude.{IfErr, IfNone, IfSome, MatchOption, OnOk}
 use Rattle.rsx_types.proofs.Lists.{slice_get_behind}
-use Rattle.rsx_sources.specs.Prelude.{Meaning}
+use Rattle.rsx_sources.specs.Prelude.{Meaning, Stream}
 use Rattle.rsx_sources.specs.declared.machine.Machine.{Ghosts as Machine}
 use Rattle.rsx_region.proofs.EdgePlaces.{same_some}
 use Rattle.rsx_region.specs.Pieces.{Each, StandsSince}
@@ -156,20 +156,20 @@ put_there_still {A} base rows again place x put same none =
 
 -- ---- rows that stand for other rows
 
-module _ {M T : Type 0} (b : Machine M T) (m : Meaning T) (n : ℕ) where
+module _ {M T : Type 0} (b : Machine M T) (m : Meaning T) (hubs : List (Stream T)) where
   record LastStands (row : List (Piece M T)) (x : Piece M T) (now : List (Piece M T)) : Type 0 where
     rest : List (Piece M T)
     last : Piece M T
     is : now ≡ rest ++ last ∷ []
-    stands : StandsSince b m n x last
-    others : RegionStands b m n row rest
+    stands : StandsSince b m hubs x last
+    others : RegionStands b m hubs row rest
 
   unsnoc : (xs : List (Piece M T)) (size : ℕ) → length xs ≡ size + 1 → (rest : List (Piece M T)) × (last : Piece M T) × (xs ≡ rest ++ last ∷ [])
   unsnoc [] size e = absurd (let k = e in omega (arith, k))
   unsnoc (x ∷ []) size e = ([], x, refl)
   unsnoc (x ∷ y ∷ ys) size e = let r = unsnoc (y ∷ ys) (length ys) (let one : length (y ∷ ys) ≡ length ys + 1 = omega arith in one) in (x ∷ r.0, r.1, ap (λ l. x ∷ l) r.2)
 
-  last_stands : (row : List (Piece M T)) (x : Piece M T) (now : List (Piece M T)) → RegionStands b m n (row ++ x ∷ []) now → LastStands row x now
+  last_stands : (row : List (Piece M T)) (x : Piece M T) (now : List (Piece M T)) → RegionStands b m hubs (row ++ x ∷ []) now → LastStands row x now
   last_stands row x now w =
       let r = unsnoc now (length row) (w.count ∙ one_longer row x) in
       let size : length r.0 ≡ length row = let a = ap length r.2 in let c = one_longer r.0 r.1 in let d = w.count in let e = one_longer row x in omega (arith, a, c, d, e) in
@@ -186,16 +186,16 @@ module _ {M T : Type 0} (b : Machine M T) (m : Meaning T) (n : ℕ) where
   record FirstStands (p : ℕ) (row : List (Piece M T)) (x : Piece M T) (opening now : List (List (Piece M T))) : Type 0 where
     last : Piece M T
     lower : List (List (Piece M T))
-    stands : StandsSince b m n x last
-    rows : RowsStand b m n (slice_set opening p row) lower
+    stands : StandsSince b m hubs x last
+    rows : RowsStand b m hubs (slice_set opening p row) lower
     put : IsPut lower p last now
 
-  rows_set : (p : ℕ) (row rest : List (Piece M T)) (opening now : List (List (Piece M T))) → RowsStand b m n opening now → RegionStands b m n row rest → RowsStand b m n (slice_set opening p row) (slice_set now p rest)
+  rows_set : (p : ℕ) (row rest : List (Piece M T)) (opening now : List (List (Piece M T))) → RowsStand b m hubs opening now → RegionStands b m hubs row rest → RowsStand b m hubs (slice_set opening p row) (slice_set now p rest)
   rows_set p row rest opening now w one = record {
     count = length-set now p rest ∙ (w.count ∙ sym (length-set opening p row));
     each = λ k was is first now_at. elim (set_cases opening p k row was first) [
       | inl s ↦ elim (set_cases now p k rest is now_at) [
-        | inl y ↦ subst (λ (r : List (Piece M T)). RegionStands b m n r is) (sym s.1) (subst (λ (r : List (Piece M T)). RegionStands b m n row r) (sym y.1) one)
+        | inl y ↦ subst (λ (r : List (Piece M T)). RegionStands b m hubs r is) (sym s.1) (subst (λ (r : List (Piece M T)). RegionStands b m hubs row r) (sym y.1) one)
         | inr y ↦ absurd (y.0 s.0)
       ]
       | inr s ↦ elim (set_cases now p k rest is now_at) [
@@ -205,7 +205,7 @@ module _ {M T : Type 0} (b : Machine M T) (m : Meaning T) (n : ℕ) where
     ];
   }
 
-  first_put : (p : ℕ) (row : List (Piece M T)) (x : Piece M T) (opening now : List (List (Piece M T))) (here : List (Piece M T)) → slice_get now p ≡ Some here → RowsStand b m n opening now → LastStands row x here → FirstStands p row x opening now
+  first_put : (p : ℕ) (row : List (Piece M T)) (x : Piece M T) (opening now : List (List (Piece M T))) (here : List (Piece M T)) → slice_get now p ≡ Some here → RowsStand b m hubs opening now → LastStands row x here → FirstStands p row x opening now
   first_put p row x opening now here at w l = record {
     last = l.last;
     lower = slice_set now p l.rest;
@@ -218,21 +218,21 @@ module _ {M T : Type 0} (b : Machine M T) (m : Meaning T) (n : ℕ) where
     };
   }
 
-  first_stands : (p : ℕ) (row : List (Piece M T)) (x : Piece M T) (opening now : List (List (Piece M T))) → slice_get opening p ≡ Some (row ++ x ∷ []) → RowsStand b m n opening now → FirstStands p row x opening now
+  first_stands : (p : ℕ) (row : List (Piece M T)) (x : Piece M T) (opening now : List (List (Piece M T))) → slice_get opening p ≡ Some (row ++ x ∷ []) → RowsStand b m hubs opening now → FirstStands p row x opening now
   first_stands p row x opening now there w =
       let within = slice_get_within opening p (row ++ x ∷ []) there in
       let size = w.count in
       let here = there_of now p (omega (arith, within, size)) in
       first_put p row x opening now here.0 here.1 w (last_stands row x here.0 (w.each p (row ++ x ∷ []) here.0 there here.1))
 
-  one_more : (x : Piece M T) (xs : List (Piece M T)) (y : Piece M T) (ys : List (Piece M T)) → StandsSince b m n x y → RegionStands b m n xs ys → RegionStands b m n (x ∷ xs) (y ∷ ys)
+  one_more : (x : Piece M T) (xs : List (Piece M T)) (y : Piece M T) (ys : List (Piece M T)) → StandsSince b m hubs x y → RegionStands b m hubs xs ys → RegionStands b m hubs (x ∷ xs) (y ∷ ys)
   one_more x xs y ys one rest = record { count = ap suc rest.count; each = of }
     where
-      of : (k : ℕ) (p q : Piece M T) → slice_get (x ∷ xs) k ≡ Some p → slice_get (y ∷ ys) k ≡ Some q → StandsSince b m n p q
-      of zero p q first now = subst (λ (z : Piece M T). StandsSince b m n z q) (same_some x p first) (subst (λ (z : Piece M T). StandsSince b m n x z) (same_some y q now) one)
+      of : (k : ℕ) (p q : Piece M T) → slice_get (x ∷ xs) k ≡ Some p → slice_get (y ∷ ys) k ≡ Some q → StandsSince b m hubs p q
+      of zero p q first now = subst (λ (z : Piece M T). StandsSince b m hubs z q) (same_some x p first) (subst (λ (z : Piece M T). StandsSince b m hubs x z) (same_some y q now) one)
       of (suc k) p q first now = rest.each k p q first now
 
-  none_stand : RegionStands b m n [] []
+  none_stand : RegionStands b m hubs [] []
   none_stand = record { count = refl; each = λ k p q at there. absurd (nothing_there k p at) }
 
   -- the pieces that are taken out of rows which stand for other rows stand for those that were put into these
@@ -240,19 +240,19 @@ module _ {M T : Type 0} (b : Machine M T) (m : Meaning T) (n : ℕ) where
     pub base : List (List (Piece M T))
     pub pieces : List (Piece M T)
     pub are : AreIn base ps pieces now
-    pub stand : RegionStands b m n xs pieces
+    pub stand : RegionStands b m hubs xs pieces
 
-  more_in : (p : ℕ) (ps : List ℕ) (xs others : List (Piece M T)) (x last : Piece M T) (lower now : List (List (Piece M T))) → xs ≡ x ∷ others → StandsSince b m n x last → IsPut lower p last now → StandIn ps others lower → StandIn (p ∷ ps) xs now
+  more_in : (p : ℕ) (ps : List ℕ) (xs others : List (Piece M T)) (x last : Piece M T) (lower now : List (List (Piece M T))) → xs ≡ x ∷ others → StandsSince b m hubs x last → IsPut lower p last now → StandIn ps others lower → StandIn (p ∷ ps) xs now
   more_in p ps xs others x last lower now all one put r = record {
     base = r.base;
     pieces = last ∷ r.pieces;
     are = (last, r.pieces, lower, refl, r.are, put);
-    stand = subst (λ (z : List (Piece M T)). RegionStands b m n z (last ∷ r.pieces)) (sym all) (one_more x others last r.pieces one r.stand);
+    stand = subst (λ (z : List (Piece M T)). RegionStands b m hubs z (last ∷ r.pieces)) (sym all) (one_more x others last r.pieces one r.stand);
   }
 
-  pub stand_in : (base : List (List (Piece M T))) (ps : List ℕ) (xs : List (Piece M T)) (opening now : List (List (Piece M T))) → AreIn base ps xs opening → RowsStand b m n opening now → StandIn ps xs now
+  pub stand_in : (base : List (List (Piece M T))) (ps : List ℕ) (xs : List (Piece M T)) (opening now : List (List (Piece M T))) → AreIn base ps xs opening → RowsStand b m hubs opening now → StandIn ps xs now
   stand_in base [] xs opening now h w =
-      let R : List (Piece M T) → Type 0 = λ l. RegionStands b m n l [] in
+      let R : List (Piece M T) → Type 0 = λ l. RegionStands b m hubs l [] in
       record { base = now; pieces = []; are = (refl, refl); stand = subst R (sym h.0) none_stand }
   stand_in base (p ∷ ps) xs opening now h w =
       let t = taken_first base p ps xs opening h in

@@ -28,7 +28,7 @@ use Rattle.rsx_region.proofs.EdgePlaces.{same_some}
 use Rattle.rsx_region.specs.Cuts.{AreWhole, HasNumbers, HasTakenNothing, IsWhole, SamePiece}
 use Rattle.rsx_region.specs.Halves.{AreHalves}
 use Rattle.rsx_region.specs.Joins.{CannotJoin, HasNoOther, IsCutFrom, IsJoinedBy}
-use Rattle.rsx_region.specs.Pieces.{AreApart, Each, IsAt, IsPieceOf, StandsSince, came_of, hub_of, numbers_of, taken_by, taken_of}
+use Rattle.rsx_region.specs.Pieces.{AreApart, Each, IsAt, IsBlankAt, IsPieceOf, StandsSince, came_of, hub_of, numbers_of, taken_by, taken_of}
 use Rattle.rsx_region.specs.Regions.{ArePiecesOf, RegionStands}
 use Rattle.rsx_region.specs.Trees.{AreCutFrom, EdgeName, HaveGoneSince, IsCutThere, IsOneCut, IsOpen, LastCannotJoin, SameStage, Stage, names_of, stage_of}
 use Rattle.rsx_region.specs.declared.halves.Below.{Below}
@@ -122,22 +122,23 @@ same_ends {M} {T} links old new s w =
 same_fresh : {M T : Type 0} (old new : Piece M T) → SamePiece old new → HasTakenNothing old → HasTakenNothing new
 same_fresh {M} {T} old new s h = let E : List (Incoming T) → Type 0 = λ is. Each (λ (i : Incoming T). received_signals i.inlet.down ≡ []) is in subst E (sym s.inlets) h
 
-same_since : {M T : Type 0} (b : Machine M T) (m : Meaning T) (n : ℕ) (o o' p p' : Piece M T) → SamePiece o o' → SamePiece p p' → StandsSince b m n o p → StandsSince b m n o' p'
-same_since {M} {T} b m n o o' p p' so sp w =
-    let taken : taken_of n p' ≡ taken_of n p = ap (λ l. taken_by stream_of [] n (map came_of l)) sp.inlets in
+same_since : {M T : Type 0} (b : Machine M T) (m : Meaning T) (hubs : List (Stream T)) (o o' p p' : Piece M T) → SamePiece o o' → SamePiece p p' → StandsSince b m hubs o p → StandsSince b m hubs o' p'
+same_since {M} {T} b m hubs o o' p p' so sp w =
+    let taken : taken_of hubs p' ≡ taken_of hubs p = ap (λ l. taken_by stream_of hubs (map came_of l)) sp.inlets in
     let A : List (Stream T) → Type 0 = λ t. PieceStands b m t o.part.tree (sent_signals o.up) p.part p.up in
-    let B : Part M → Type 0 = λ q. PieceStands b m (taken_of n p') q.tree (sent_signals o.up) p.part p.up in
-    let C : Up T → Type 0 = λ u. PieceStands b m (taken_of n p') o'.part.tree (sent_signals u) p.part p.up in
-    let D : Part M → Type 0 = λ q. PieceStands b m (taken_of n p') o'.part.tree (sent_signals o'.up) q p.up in
-    let E : Up T → Type 0 = λ u. PieceStands b m (taken_of n p') o'.part.tree (sent_signals o'.up) p'.part u in
+    let B : Part M → Type 0 = λ q. PieceStands b m (taken_of hubs p') q.tree (sent_signals o.up) p.part p.up in
+    let C : Up T → Type 0 = λ u. PieceStands b m (taken_of hubs p') o'.part.tree (sent_signals u) p.part p.up in
+    let D : Part M → Type 0 = λ q. PieceStands b m (taken_of hubs p') o'.part.tree (sent_signals o'.up) q p.up in
+    let E : Up T → Type 0 = λ u. PieceStands b m (taken_of hubs p') o'.part.tree (sent_signals o'.up) p'.part u in
     let I : List (Stream T) → Type 0 = λ t. Each (λ (i : Incoming T). InletStands b t p.part i.inlet) p.inlets.items in
-    let J : Part M → Type 0 = λ q. Each (λ (i : Incoming T). InletStands b (taken_of n p') q i.inlet) p.inlets.items in
-    let K : List (Incoming T) → Type 0 = λ l. Each (λ (i : Incoming T). InletStands b (taken_of n p') p'.part i.inlet) l in
+    let J : Part M → Type 0 = λ q. Each (λ (i : Incoming T). InletStands b (taken_of hubs p') q i.inlet) p.inlets.items in
+    let K : List (Incoming T) → Type 0 = λ l. Each (λ (i : Incoming T). InletStands b (taken_of hubs p') p'.part i.inlet) l in
     record {
       links = (sp.link ∙ (w.links.0 ∙ sym so.link), ap (map numbers_of) sp.inlets ∙ (w.links.1 ∙ ap (map numbers_of) (sym so.inlets)));
       carried = ap carried_up sp.up ∙ (w.carried ∙ ap carried_up (sym so.up));
       part = subst E (sym sp.up) (subst D (sym sp.part) (subst C (sym so.up) (subst B (sym so.part) (subst A (sym taken) w.part))));
       ins = subst K (sym sp.inlets) (subst J (sym sp.part) (subst I (sym taken) w.ins));
+      blank = subst (Each (λ (i : Incoming T). IsBlankAt hubs (hub_of i))) (sym sp.inlets) w.blank;
     }
 
 self_same : {M T : Type 0} (p : Piece M T) → SamePiece p p
@@ -154,13 +155,13 @@ each_same P old new s keeps all k q at =
     let was = there_of old.pieces k (omega (arith, n, c)) in
     keeps was.0 q (s.each k was.0 q was.1 at) (all k was.0 was.1)
 
-pub same_open : {M T : Type 0} (b : Machine M T) (m : Meaning T) (n : ℕ) (old new : Stage M T) → SameStage old new → IsOpen b m n old → IsOpen b m n new
-same_open {M} {T} b m n old new s o =
+pub same_open : {M T : Type 0} (b : Machine M T) (m : Meaning T) (hubs : List (Stream T)) (old new : Stage M T) → SameStage old new → IsOpen b m hubs old → IsOpen b m hubs new
+same_open {M} {T} b m hubs old new s o =
     let L : List (Link T) → Type 0 = λ ls. ArePiecesOf ls new.pieces in
     record {
       ends = subst L (sym s.links) (each_same (IsPieceOf old.links) old new s (same_ends old.links) o.ends);
       fresh = each_same HasTakenNothing old new s same_fresh o.fresh;
-      stands = each_same (λ (p : Piece M T). StandsSince b m n p p) old new s (λ p q same w. same_since b m n p q p q same same w) o.stands;
+      stands = each_same (λ (p : Piece M T). StandsSince b m hubs p p) old new s (λ p q same w. same_since b m hubs p q p q same same w) o.stands;
     }
 
 pub same_again : {M T : Type 0} (a b c : Stage M T) → SameStage a b → SameStage b c → SameStage a c
@@ -184,14 +185,14 @@ self_stage {M} {T} s = record {
 }
 
 -- what stands for the same pieces stands for these
-pub stand_same : {M T : Type 0} (b : Machine M T) (m : Meaning T) (n : ℕ) (old new : Stage M T) (now : List (Piece M T)) → SameStage old new → RegionStands b m n new.pieces now → RegionStands b m n old.pieces now
-stand_same b m n old new now s w = record {
+pub stand_same : {M T : Type 0} (b : Machine M T) (m : Meaning T) (hubs : List (Stream T)) (old new : Stage M T) (now : List (Piece M T)) → SameStage old new → RegionStands b m hubs new.pieces now → RegionStands b m hubs old.pieces now
+stand_same b m hubs old new now s w = record {
   count = w.count ∙ s.count;
   each = λ k o p first at.
       let within = slice_get_within old.pieces k o first in
       let c = s.count in
       let mid = there_of new.pieces k (omega (arith, within, c)) in
-      same_since b m n mid.0 o p p (turned o mid.0 (s.each k o mid.0 first mid.1)) (self_same p) (w.each k mid.0 p mid.1 at);
+      same_since b m hubs mid.0 o p p (turned o mid.0 (s.each k o mid.0 first mid.1)) (self_same p) (w.each k mid.0 p mid.1 at);
 }
 
 -- ---- a cut
@@ -207,18 +208,18 @@ more_links {M} {T} links l p w = record {
 each_cut : {A : Type 0} (P : A → Type 0) (xs : List A) (i : ℕ) (u l : A) → P u → P l → Each P xs → Each P (slice_set xs i u ++ l ∷ [])
 each_cut P xs i u l up low all = each_more P (slice_set xs i u) l (each_set P xs i u up all) low
 
-pub cut_open : {M T : Type 0} (b : Machine M T) (crossing : CrossingNodes M T) (m : Meaning T) (n above at : ℕ) (old new : Stage M T) (c : IsOneCut b crossing old above at new) →
-    IsPieceOf new.links c.upper → IsPieceOf new.links c.lower → HasTakenNothing c.upper → HasTakenNothing c.lower → StandsSince b m n c.upper c.upper → StandsSince b m n c.lower c.lower → IsOpen b m n old → IsOpen b m n new
-cut_open {M} {T} b crossing m n above at old new c up low fresh_up fresh_low stands_up stands_low o =
+pub cut_open : {M T : Type 0} (b : Machine M T) (crossing : CrossingNodes M T) (m : Meaning T) (hubs : List (Stream T)) (above at : ℕ) (old new : Stage M T) (c : IsOneCut b crossing old above at new) →
+    IsPieceOf new.links c.upper → IsPieceOf new.links c.lower → HasTakenNothing c.upper → HasTakenNothing c.lower → StandsSince b m hubs c.upper c.upper → StandsSince b m hubs c.lower c.lower → IsOpen b m hubs old → IsOpen b m hubs new
+cut_open {M} {T} b crossing m hubs above at old new c up low fresh_up fresh_low stands_up stands_low o =
     let E : List (Piece M T) → Type 0 = λ ps. ArePiecesOf new.links ps in
     let F : List (Piece M T) → Type 0 = λ ps. Each HasTakenNothing ps in
-    let S : List (Piece M T) → Type 0 = λ ps. Each (λ (p : Piece M T). StandsSince b m n p p) ps in
+    let S : List (Piece M T) → Type 0 = λ ps. Each (λ (p : Piece M T). StandsSince b m hubs p p) ps in
     let L : List (Link T) → Type 0 = λ ls. ArePiecesOf ls old.pieces in
     let more : ArePiecesOf new.links old.pieces = subst L (sym c.links) (λ k p is. more_links old.links c.link p (o.ends k p is)) in
     record {
       ends = subst E (sym c.pieces) (each_cut (IsPieceOf new.links) old.pieces above c.upper c.lower up low more);
       fresh = subst F (sym c.pieces) (each_cut HasTakenNothing old.pieces above c.upper c.lower fresh_up fresh_low o.fresh);
-      stands = subst S (sym c.pieces) (each_cut (λ (p : Piece M T). StandsSince b m n p p) old.pieces above c.upper c.lower stands_up stands_low o.stands);
+      stands = subst S (sym c.pieces) (each_cut (λ (p : Piece M T). StandsSince b m hubs p p) old.pieces above c.upper c.lower stands_up stands_low o.stands);
     }
 
 -- one step behind the others
@@ -237,12 +238,12 @@ comes_so b crossing was upper below at number hub count c numbers is =
     let last = both_same numbers.others was.inlets.items numbers.last c.inlet (sym numbers.ins ∙ c.ins) in
     ap (λ (i : Incoming _). i.link) (sym last.1) ∙ (numbers.comes ∙ is)
 
-pub cut_from : {M T : Type 0} (b : Machine M T) (crossing : CrossingNodes M T) (m : Meaning T) (n above at number : ℕ) (whole : Stage M T) (old new : CutTrees M T) (c : IsOneCut b crossing (stage_of old) above at (stage_of new)) → names_of new.edges.items ≡ names_of old.edges.items ++ record { above = above; at = at } ∷ [] →
+pub cut_from : {M T : Type 0} (b : Machine M T) (crossing : CrossingNodes M T) (m : Meaning T) (hubs : List (Stream T)) (above at number : ℕ) (whole : Stage M T) (old new : CutTrees M T) (c : IsOneCut b crossing (stage_of old) above at (stage_of new)) → names_of new.edges.items ≡ names_of old.edges.items ++ record { above = above; at = at } ∷ [] →
     number ≡ length old.links.items → ((links : List (Link T)) → number ≡ length links → IsPieceOf links c.was → IsPieceOf (links ++ c.link ∷ []) c.upper × IsPieceOf (links ++ c.link ∷ []) c.lower) →
-    (HasTakenNothing c.was → HasTakenNothing c.upper × HasTakenNothing c.lower) → (HasTakenNothing c.was → StandsSince b m n c.was c.was → StandsSince b m n c.upper c.upper × StandsSince b m n c.lower c.lower) →
-    AreCutFrom b crossing m n whole old → AreCutFrom b crossing m n whole new
-cut_from {M} {T} b crossing m n above at number whole old new c named last ends fresh stands w =
-    let step = IsCutThere b crossing m n in
+    (HasTakenNothing c.was → HasTakenNothing c.upper × HasTakenNothing c.lower) → (HasTakenNothing c.was → StandsSince b m hubs c.was c.was → StandsSince b m hubs c.upper c.upper × StandsSince b m hubs c.lower c.lower) →
+    AreCutFrom b crossing m hubs whole old → AreCutFrom b crossing m hubs whole new
+cut_from {M} {T} b crossing m hubs above at number whole old new c named last ends fresh stands w =
+    let step = IsCutThere b crossing m hubs in
     let R : List EdgeName → Type 0 = λ es. Leads step whole es (stage_of new) in
     let L : List (Link T) → Type 0 = λ ls. IsPieceOf ls c.upper × IsPieceOf ls c.lower in
     let nothing = w.opens.fresh above c.was c.there in
@@ -253,7 +254,7 @@ cut_from {M} {T} b crossing m n above at number whole old new c named last ends 
       last = stage_of new;
       run = subst R (sym named) (leads_more step whole w.last (stage_of new) (names_of old.edges.items) (record { above = above; at = at }) w.run (record { before = stage_of old; same = w.same; opens = w.opens; cut = c }));
       same = self_stage (stage_of new);
-      opens = cut_open b crossing m n above at (stage_of old) (stage_of new) c both_ends.0 both_ends.1 both_fresh.0 both_fresh.1 both_stand.0 both_stand.1 w.opens;
+      opens = cut_open b crossing m hubs above at (stage_of old) (stage_of new) c both_ends.0 both_ends.1 both_fresh.0 both_fresh.1 both_stand.0 both_stand.1 w.opens;
     }
 
 -- the lists of the pieces have other room at most
@@ -276,24 +277,24 @@ stage_one {M} {T} old new above was is there same pieces links = record {
   ];
 }
 
-pub still_from : {M T : Type 0} (b : Machine M T) (crossing : CrossingNodes M T) (m : Meaning T) (n : ℕ) (whole : Stage M T) (old new : CutTrees M T) → SameStage (stage_of old) (stage_of new) → names_of new.edges.items ≡ names_of old.edges.items → AreCutFrom b crossing m n whole old → AreCutFrom b crossing m n whole new
-still_from {M} {T} b crossing m n whole old new s edges w =
-    let R : List EdgeName → Type 0 = λ es. Leads (IsCutThere b crossing m n) whole es w.last in
-    record { last = w.last; run = subst R (sym edges) w.run; same = same_again w.last (stage_of old) (stage_of new) w.same s; opens = same_open b m n (stage_of old) (stage_of new) s w.opens }
+pub still_from : {M T : Type 0} (b : Machine M T) (crossing : CrossingNodes M T) (m : Meaning T) (hubs : List (Stream T)) (whole : Stage M T) (old new : CutTrees M T) → SameStage (stage_of old) (stage_of new) → names_of new.edges.items ≡ names_of old.edges.items → AreCutFrom b crossing m hubs whole old → AreCutFrom b crossing m hubs whole new
+still_from {M} {T} b crossing m hubs whole old new s edges w =
+    let R : List EdgeName → Type 0 = λ es. Leads (IsCutThere b crossing m hubs) whole es w.last in
+    record { last = w.last; run = subst R (sym edges) w.run; same = same_again w.last (stage_of old) (stage_of new) w.same s; opens = same_open b m hubs (stage_of old) (stage_of new) s w.opens }
 
 -- ---- what is known of the last edge
 
-pub record LastOf {M T : Type 0} (b : Machine M T) (crossing : CrossingNodes M T) (m : Meaning T) (n : ℕ) (whole opening : Stage M T) (edges : List EdgeName) (edge : EdgeName) : Type 0 where
+pub record LastOf {M T : Type 0} (b : Machine M T) (crossing : CrossingNodes M T) (m : Meaning T) (hubs : List (Stream T)) (whole opening : Stage M T) (edges : List EdgeName) (edge : EdgeName) : Type 0 where
   pub first : Stage M T
-  pub run : Leads (IsCutThere b crossing m n) whole edges first
-  pub there : IsCutThere b crossing m n first edge opening
+  pub run : Leads (IsCutThere b crossing m hubs) whole edges first
+  pub there : IsCutThere b crossing m hubs first edge opening
 
-module _ {M T : Type 0} (b : Machine M T) (crossing : CrossingNodes M T) (m : Meaning T) (n : ℕ) (whole opening : Stage M T) (t : CutTrees M T) (edges : List EdgeName) (edge : EdgeName) (pieces : List (Piece M T)) (lower : Piece M T) (links : List (Link T)) (link : Link T)
-    (edges_are : names_of t.edges.items ≡ edges ++ edge ∷ []) (pieces_are : t.pieces.items ≡ pieces ++ lower ∷ []) (links_are : t.links.items ≡ links ++ link ∷ []) (since : HaveGoneSince b crossing m n whole opening t) where
-  pub last : LastOf b crossing m n whole opening edges edge
+module _ {M T : Type 0} (b : Machine M T) (crossing : CrossingNodes M T) (m : Meaning T) (first hubs : List (Stream T)) (whole opening : Stage M T) (t : CutTrees M T) (edges : List EdgeName) (edge : EdgeName) (pieces : List (Piece M T)) (lower : Piece M T) (links : List (Link T)) (link : Link T)
+    (edges_are : names_of t.edges.items ≡ edges ++ edge ∷ []) (pieces_are : t.pieces.items ≡ pieces ++ lower ∷ []) (links_are : t.links.items ≡ links ++ link ∷ []) (since : HaveGoneSince b crossing m first hubs whole opening t) where
+  pub last : LastOf b crossing m first whole opening edges edge
   last =
-      let R : List EdgeName → Type 0 = λ es. Leads (IsCutThere b crossing m n) whole es opening in
-      let r = leads_last (IsCutThere b crossing m n) whole opening edges edge (subst R edges_are since.run) in
+      let R : List EdgeName → Type 0 = λ es. Leads (IsCutThere b crossing m first) whole es opening in
+      let r = leads_last (IsCutThere b crossing m first) whole opening edges edge (subst R edges_are since.run) in
       record { first = r.0; run = r.1; there = r.2 }
 
   abbrev pub before : Stage M T
@@ -334,7 +335,7 @@ module _ {M T : Type 0} (b : Machine M T) (crossing : CrossingNodes M T) (m : Me
   lower_here : slice_get t.pieces.items (length pieces) ≡ Some lower
   lower_here = ap (λ l. slice_get l (length pieces)) pieces_are ∙ slice_get_behind pieces lower []
 
-  lower_since : StandsSince b m n cut.lower lower
+  lower_since : StandsSince b m hubs cut.lower lower
   lower_since = since.stands.each (length pieces) cut.lower lower lower_at lower_here
 
   opening_at : (k : ℕ) → k < length pieces → slice_get opening.pieces k ≡ slice_get (slice_set before.pieces edge.above cut.upper) k
@@ -346,7 +347,7 @@ module _ {M T : Type 0} (b : Machine M T) (crossing : CrossingNodes M T) (m : Me
   here k p at = ap (λ l. slice_get l k) pieces_are ∙ front_there pieces lower k p at
 
   module _ (upper : Piece M T) (upper_at : slice_get pieces edge.above ≡ Some upper) where
-    upper_since : StandsSince b m n cut.upper upper
+    upper_since : StandsSince b m hubs cut.upper upper
     upper_since = since.stands.each edge.above cut.upper upper (opening_at edge.above above_less ∙ set_there before.pieces edge.above was cut.upper cut.there) (here edge.above upper upper_at)
 
     shown : LastShown numbers_of upper.inlets.items was.inlets.items cut.cut.inlet
@@ -387,7 +388,7 @@ module _ {M T : Type 0} (b : Machine M T) (crossing : CrossingNodes M T) (m : Me
           empty = empty;
         }
 
-    was_stands : StandsSince b m n was was
+    was_stands : StandsSince b m first was was
     was_stands = last.there.opens.stands edge.above was cut.there
 
     was_ends : IsPieceOf before.links was
@@ -412,7 +413,7 @@ module _ {M T : Type 0} (b : Machine M T) (crossing : CrossingNodes M T) (m : Me
           known was whole_piece (by.link ∙ (upper_since.links.0 ∙ cut.cut.link)) (ap (map numbers_of) rest.0 ∙ shown.shows) was_ends
 
       -- a piece that was left alone
-      other_was : (k : ℕ) (p : Piece M T) → (k ≡ edge.above → ⊥) → slice_get pieces k ≡ Some p → (o : Piece M T) × (slice_get before.pieces k ≡ Some o) × StandsSince b m n o p
+      other_was : (k : ℕ) (p : Piece M T) → (k ≡ edge.above → ⊥) → slice_get pieces k ≡ Some p → (o : Piece M T) × (slice_get before.pieces k ≡ Some o) × StandsSince b m hubs o p
       other_was k p ne at =
           let less = slice_get_within pieces k p at in
           let o = there_of before.pieces k (let s = size in omega (arith, less, s)) in
@@ -430,18 +431,18 @@ module _ {M T : Type 0} (b : Machine M T) (crossing : CrossingNodes M T) (m : Me
 
       pub joined_since : (new : CutTrees M T) → new.pieces.items ≡ slice_set pieces edge.above whole_piece → new.links.items ≡ links → names_of new.edges.items ≡ edges →
           ((ls : List (Link T)) → IsPieceOf (ls ++ link ∷ []) upper → HasNoOther (length ls) whole_piece → IsPieceOf ls whole_piece) →
-          ((was : Piece M T) (h : IsCutFrom b crossing was (record { upper = cut.upper; lower = cut.lower; at = edge.at })) → StandsSince b m n cut.upper upper → StandsSince b m n cut.lower lower → StandsSince b m n was was → StandsSince b m n was whole_piece) →
-          (first : Stage M T) × HaveGoneSince b crossing m n whole first new
+          ((was : Piece M T) (h : IsCutFrom b crossing was (record { upper = cut.upper; lower = cut.lower; at = edge.at })) → StandsSince b m hubs cut.upper upper → StandsSince b m hubs cut.lower lower → StandsSince b m first was was → StandsSince b m hubs was whole_piece) →
+          (start : Stage M T) × HaveGoneSince b crossing m first hubs whole start new
       joined_since new new_pieces new_links new_edges ends stands =
-          let first = last.first in
+          let start = last.first in
           let same = last.there.same in
-          let E : List EdgeName → Type 0 = λ es. Leads (IsCutThere b crossing m n) whole es first in
+          let E : List EdgeName → Type 0 = λ es. Leads (IsCutThere b crossing m first) whole es start in
           let P : List (Piece M T) → Type 0 = λ ps. ArePiecesOf links ps in
           let L : List (Link T) → Type 0 = λ ls. ArePiecesOf ls new.pieces.items in
           let U : List (Link T) → Type 0 = λ ls. IsPieceOf ls upper in
           let whole_ends = ends links (subst U links_are upper_ends) joined_known in
           let whole_stands = stands was cut.cut upper_since lower_since was_stands in (
-            first,
+            start,
             record {
               run = subst E (sym new_edges) last.run;
               links = new_links ∙ (links_same.0 ∙ same.links);
@@ -455,28 +456,28 @@ module _ {M T : Type 0} (b : Machine M T) (crossing : CrossingNodes M T) (m : Me
                 count = ap length new_pieces ∙ (length-set pieces edge.above whole_piece ∙ (size ∙ same.count));
                 each = λ k o p first_at now_at.
                     let now_here = sym (ap (λ l. slice_get l k) new_pieces) ∙ now_at in
-                    let within = slice_get_within first.pieces k o first_at in
+                    let within = slice_get_within start.pieces k o first_at in
                     let c = same.count in
                     let mid = there_of before.pieces k (omega (arith, within, c)) in
                     let one = turned o mid.0 (same.each k o mid.0 first_at mid.1) in
                     elim (set_cases pieces edge.above k whole_piece p now_here) [
                       | inl s ↦
                           let mid_is : was ≡ mid.0 = same_some was mid.0 (sym cut.there ∙ (ap (slice_get before.pieces) (sym s.0) ∙ mid.1)) in
-                          same_since b m n mid.0 o whole_piece p one (subst (λ (q : Piece M T). SamePiece whole_piece q) (sym s.1) (self_same whole_piece)) (subst (λ (q : Piece M T). StandsSince b m n q whole_piece) mid_is whole_stands)
+                          same_since b m hubs mid.0 o whole_piece p one (subst (λ (q : Piece M T). SamePiece whole_piece q) (sym s.1) (self_same whole_piece)) (subst (λ (q : Piece M T). StandsSince b m hubs q whole_piece) mid_is whole_stands)
                       | inr s ↦
                           let x = other_was k p s.0 s.1 in
-                          same_since b m n mid.0 o p p one (self_same p) (subst (λ (q : Piece M T). StandsSince b m n q p) (same_some x.0 mid.0 (sym x.1 ∙ mid.1)) x.2)
+                          same_since b m hubs mid.0 o p p one (self_same p) (subst (λ (q : Piece M T). StandsSince b m hubs q p) (same_some x.0 mid.0 (sym x.1 ∙ mid.1)) x.2)
                     ];
               };
             },
           )
 
 -- where an edge was cut, there are a piece and a link behind the others
-pub some_there : {M T : Type 0} (b : Machine M T) (crossing : CrossingNodes M T) (m : Meaning T) (n : ℕ) (whole opening : Stage M T) (t : CutTrees M T) (edges : List EdgeName) (edge : EdgeName) → names_of t.edges.items ≡ edges ++ edge ∷ [] → HaveGoneSince b crossing m n whole opening t → (0 < length t.pieces.items) × (0 < length t.links.items)
-some_there {M} {T} b crossing m n whole opening t edges edge are since =
-    let R : List EdgeName → Type 0 = λ es. Leads (IsCutThere b crossing m n) whole es opening in
-    let c = (leads_last (IsCutThere b crossing m n) whole opening edges edge (subst R are since.run)).2.cut in
-    let before = (leads_last (IsCutThere b crossing m n) whole opening edges edge (subst R are since.run)).2.before in
+pub some_there : {M T : Type 0} (b : Machine M T) (crossing : CrossingNodes M T) (m : Meaning T) (first hubs : List (Stream T)) (whole opening : Stage M T) (t : CutTrees M T) (edges : List EdgeName) (edge : EdgeName) → names_of t.edges.items ≡ edges ++ edge ∷ [] → HaveGoneSince b crossing m first hubs whole opening t → (0 < length t.pieces.items) × (0 < length t.links.items)
+some_there {M} {T} b crossing m first hubs whole opening t edges edge are since =
+    let R : List EdgeName → Type 0 = λ es. Leads (IsCutThere b crossing m first) whole es opening in
+    let c = (leads_last (IsCutThere b crossing m first) whole opening edges edge (subst R are since.run)).2.cut in
+    let before = (leads_last (IsCutThere b crossing m first) whole opening edges edge (subst R are since.run)).2.before in
     let one = one_longer (slice_set before.pieces edge.above c.upper) c.lower in
     let two = one_longer before.links c.link in
     let p = ap length c.pieces in
@@ -518,10 +519,10 @@ pub last_still : {M T : Type 0} (b : Machine M T) (crossing : CrossingNodes M T)
 last_still {M} {T} b crossing old new same names h es e ps u l named are there = h es e ps u l (sym names ∙ named) (sym (ap (λ (s : Stage M T). s.pieces) same) ∙ are) there
 
 -- nothing was joined
-pub still_since : {M T : Type 0} (b : Machine M T) (crossing : CrossingNodes M T) (m : Meaning T) (n : ℕ) (whole opening : Stage M T) (old new : CutTrees M T) → stage_of new ≡ stage_of old → names_of new.edges.items ≡ names_of old.edges.items → HaveGoneSince b crossing m n whole opening old → HaveGoneSince b crossing m n whole opening new
-still_since {M} {T} b crossing m n whole opening old new same edges w =
-    let R : List EdgeName → Type 0 = λ es. Leads (IsCutThere b crossing m n) whole es opening in
-    let S : Stage M T → Type 0 = λ s. (s.links ≡ opening.links) × ArePiecesOf s.links s.pieces × RegionStands b m n opening.pieces s.pieces in
+pub still_since : {M T : Type 0} (b : Machine M T) (crossing : CrossingNodes M T) (m : Meaning T) (first hubs : List (Stream T)) (whole opening : Stage M T) (old new : CutTrees M T) → stage_of new ≡ stage_of old → names_of new.edges.items ≡ names_of old.edges.items → HaveGoneSince b crossing m first hubs whole opening old → HaveGoneSince b crossing m first hubs whole opening new
+still_since {M} {T} b crossing m first hubs whole opening old new same edges w =
+    let R : List EdgeName → Type 0 = λ es. Leads (IsCutThere b crossing m first) whole es opening in
+    let S : Stage M T → Type 0 = λ s. (s.links ≡ opening.links) × ArePiecesOf s.links s.pieces × RegionStands b m hubs opening.pieces s.pieces in
     let h = subst S (sym same) (w.links, w.ends, w.stands) in
     record { run = subst R (sym edges) w.run; links = h.0; ends = h.1; stands = h.2 }
 
@@ -542,29 +543,30 @@ tree_any b counts t h = (read_any counts (b.reads t.machine) h.0, row_any b coun
 none_come : {M T : Type 0} (P : Incoming T → Type 0) (p : Piece M T) → p.inlets.items ≡ [] → Each P p.inlets.items
 none_come {M} {T} P p none = let E : List (Incoming T) → Type 0 = λ is. Each P is in subst E (sym none) (λ k i at. cc)
 
-opened_whole : {M T : Type 0} (b : Machine M T) (m : Meaning T) (n : ℕ) (p : Piece M T) → IsWhole p → IsInStep p.part p.up → IsTreeReadAt b (counts_in (taken_of n p)) p.part.tree → StandsSince b m n p p
-opened_whole b m n p w step reads = record {
+opened_whole : {M T : Type 0} (b : Machine M T) (m : Meaning T) (hubs : List (Stream T)) (p : Piece M T) → IsWhole p → IsInStep p.part p.up → IsTreeReadAt b (counts_in (taken_of hubs p)) p.part.tree → StandsSince b m hubs p p
+opened_whole b m hubs p w step reads = record {
   links = (refl, refl);
   carried = refl;
-  part = opens b m (taken_of n p) p.part p.up w.live step reads;
-  ins = none_come (λ i. InletStands b (taken_of n p) p.part i.inlet) p w.none;
+  part = opens b m (taken_of hubs p) p.part p.up w.live step reads;
+  ins = none_come (λ i. InletStands b (taken_of hubs p) p.part i.inlet) p w.none;
+  blank = none_come (λ i. IsBlankAt hubs (hub_of i)) p w.none;
 }
 
-pub opened_new : {M T : Type 0} (b : Machine M T) (m : Meaning T) (n : ℕ) (p : Piece M T) → p.inlets.items ≡ [] → p.part.root.state ≡ Live → IsInStep p.part p.up → IsTreeReadAt b [] p.part.tree → StandsSince b m n p p
-opened_new b m n p none live step reads = opened_whole b m n p (record { none = none; live = live }) step (tree_any b (counts_in (taken_of n p)) p.part.tree reads)
+pub opened_new : {M T : Type 0} (b : Machine M T) (m : Meaning T) (hubs : List (Stream T)) (p : Piece M T) → p.inlets.items ≡ [] → p.part.root.state ≡ Live → IsInStep p.part p.up → IsTreeReadAt b [] p.part.tree → StandsSince b m hubs p p
+opened_new b m hubs p none live step reads = opened_whole b m hubs p (record { none = none; live = live }) step (tree_any b (counts_in (taken_of hubs p)) p.part.tree reads)
 
 pub ends_new : {M T : Type 0} (links : List (Link T)) (p : Piece M T) → p.inlets.items ≡ [] → IsAt links p.link (λ l. IsUpOf l p.up) → IsInStep p.part p.up → IsPieceOf links p
 ends_new {M} {T} links p none sends step =
     let A : List (Incoming T) → Type 0 = λ is. AreApart (map hub_of is) in
     record { sends = sends; takes = none_come (λ i. IsAt links i.link (λ l. IsInletOf l i.inlet)) p none; apart = subst A (sym none) (λ j k h at there. cc); step = step }
 
-pub begun_from : {M T : Type 0} (b : Machine M T) (crossing : CrossingNodes M T) (m : Meaning T) (n : ℕ) (t : CutTrees M T) → t.edges.items ≡ [] → IsOpen b m n (stage_of t) → AreCutFrom b crossing m n (stage_of t) t
-begun_from {M} {T} b crossing m n t none opens =
-    let R : List EdgeName → Type 0 = λ es. Leads (IsCutThere b crossing m n) (stage_of t) es (stage_of t) in
+pub begun_from : {M T : Type 0} (b : Machine M T) (crossing : CrossingNodes M T) (m : Meaning T) (hubs : List (Stream T)) (t : CutTrees M T) → t.edges.items ≡ [] → IsOpen b m hubs (stage_of t) → AreCutFrom b crossing m hubs (stage_of t) t
+begun_from {M} {T} b crossing m hubs t none opens =
+    let R : List EdgeName → Type 0 = λ es. Leads (IsCutThere b crossing m hubs) (stage_of t) es (stage_of t) in
     record { last = stage_of t; run = subst R (sym (ap names_of none)) refl; same = self_stage (stage_of t); opens = opens }
 
-pub whole_from : {M T : Type 0} (b : Machine M T) (crossing : CrossingNodes M T) (m : Meaning T) (n : ℕ) (whole opening : Stage M T) (t : CutTrees M T) → t.edges.items ≡ [] → AreWhole t.pieces.items → HaveGoneSince b crossing m n whole opening t → AreCutFrom b crossing m n (stage_of t) t
-whole_from b crossing m n whole opening t none all w = begun_from b crossing m n t none (record {
+pub whole_from : {M T : Type 0} (b : Machine M T) (crossing : CrossingNodes M T) (m : Meaning T) (first hubs : List (Stream T)) (whole opening : Stage M T) (t : CutTrees M T) → t.edges.items ≡ [] → AreWhole t.pieces.items → HaveGoneSince b crossing m first hubs whole opening t → AreCutFrom b crossing m hubs (stage_of t) t
+whole_from b crossing m first hubs whole opening t none all w = begun_from b crossing m hubs t none (record {
   ends = w.ends;
   fresh = λ k p at. none_come (λ i. received_signals i.inlet.down ≡ []) p (all k p at).none;
   stands = λ k p at.
@@ -572,12 +574,12 @@ whole_from b crossing m n whole opening t none all w = begun_from b crossing m n
       let c = w.stands.count in
       let was = there_of opening.pieces k (omega (arith, within, c)) in
       let since = w.stands.each k was.0 p was.1 at in
-      opened_whole b m n p (all k p at) since.part.step (since.part.live (all k p at).live).reads;
+      opened_whole b m hubs p (all k p at) since.part.step (since.part.live (all k p at).live).reads;
 })
 
 -- of trees that were cut and not served yet, each piece stands for what it stood for after the cuts
-pub since_from : {M T : Type 0} (b : Machine M T) (crossing : CrossingNodes M T) (m : Meaning T) (n : ℕ) (whole : Stage M T) (t : CutTrees M T) → AreCutFrom b crossing m n whole t → (opening : Stage M T) × HaveGoneSince b crossing m n whole opening t
-since_from b crossing m n whole t w = (
+pub since_from : {M T : Type 0} (b : Machine M T) (crossing : CrossingNodes M T) (m : Meaning T) (hubs : List (Stream T)) (whole : Stage M T) (t : CutTrees M T) → AreCutFrom b crossing m hubs whole t → (opening : Stage M T) × HaveGoneSince b crossing m hubs hubs whole opening t
+since_from b crossing m hubs whole t w = (
   w.last,
   record {
     run = w.run;
@@ -585,10 +587,17 @@ since_from b crossing m n whole t w = (
     ends = w.opens.ends;
     stands = record {
       count = w.same.count;
-      each = λ k o p first now. let same = turned o p (w.same.each k o p first now) in same_since b m n p o p p same (self_same p) (w.opens.stands k p now);
+      each = λ k o p first now. let same = turned o p (w.same.each k o p first now) in same_since b m hubs p o p p same (self_same p) (w.opens.stands k p now);
     };
   },
 )
+
+-- trees with no edge left are whole again
+pub none_left : {M T : Type 0} (b : Machine M T) (crossing : CrossingNodes M T) (m : Meaning T) (first hubs : List (Stream T)) (whole : Stage M T) (t : CutTrees M T) → t.edges.items ≡ [] → (before : Stage M T) × HaveGoneSince b crossing m first hubs whole before t → HaveGoneSince b crossing m first hubs whole whole t
+none_left {M} {T} b crossing m first hubs whole t none since =
+    let names : names_of t.edges.items ≡ [] = ap names_of none in
+    let same : since.0 ≡ whole = subst (λ (l : List EdgeName). Leads (IsCutThere b crossing m first) whole l since.0) names since.1.run in
+    subst (λ (s : Stage M T). HaveGoneSince b crossing m first hubs whole s t) same since.1
 
 -- ---- whether they are whole
 

@@ -1,6 +1,6 @@
 -- How the halves of a piece are joined, and what they were cut from.
 use Rattle.std.specs.Prelude.{◌≡◌, ◌⊎◌, ◌<◌, ℕ, true, false, Bool, List, [], ◌∷◌, ◌++◌, map, Some, None}
-use Rattle.rsx_sources.specs.Prelude.{Ending, Meaning, Next, Signal, ends_input}
+use Rattle.rsx_sources.specs.Prelude.{Ending, Meaning, Next, Signal, Stream, ends_input}
 use Rattle.rsx_sources.specs.declared.machine.Machine.{Ghosts as Machine}
 use Rattle.rsx_rooted.specs.declared.nodes.CrossingNodes.{Ghosts as CrossingNodes}
 use Rattle.rsx_rooted.specs.Local.{ReadsNot}
@@ -47,10 +47,10 @@ module _ {M T : Type 0} where
     pub free : Each (λ (i : Incoming T). ReadsNot b (hub_of i) h.lower.part.tree) was.inlets.items
 
   -- both halves stand for what they stood for as the piece was cut
-  pub record HaveGone (b : Machine M T) (m : Meaning T) (n : ℕ) (opening now : Halves M T) : Type 0 where
+  pub record HaveGone (b : Machine M T) (m : Meaning T) (hubs : List (Stream T)) (opening now : Halves M T) : Type 0 where
     pub at : now.at ≡ opening.at
-    pub upper : StandsSince b m n opening.upper now.upper
-    pub lower : StandsSince b m n opening.lower now.lower
+    pub upper : StandsSince b m hubs opening.upper now.upper
+    pub lower : StandsSince b m hubs opening.lower now.lower
 
   -- ---- whether they can be joined
 

@@ -22,10 +22,18 @@ Each {X} P xs = (k : ℕ) (x : X) → slice_get xs k ≡ Some x → P x
 abbrev pub AreApart : List ℕ → Type 0
 AreApart hs = (j k h : ℕ) → slice_get hs j ≡ Some h → slice_get hs k ≡ Some h → j ≡ k
 
--- So many values: at each of these numbers the value of what came there, and elsewhere the value of which nothing came.
-abbrev pub taken_by : {A B : Type 0} → (B → A) → B → ℕ → List (ℕ × B) → List A
-taken_by f none n [] = replicate n (f none)
-taken_by f none n (c ∷ cs) = replaced_at c.0 (f c.1) (taken_by f none n cs)
+-- these values, but at each of these numbers that of what came there
+abbrev pub taken_by : {A B : Type 0} → (B → A) → List A → List (ℕ × B) → List A
+taken_by f values [] = values
+taken_by f values (c ∷ cs) = replaced_at c.0 (f c.1) (taken_by f values cs)
+
+-- so many values of hubs and links of which nothing was taken in
+abbrev pub none_taken : {T : Type 0} → ℕ → List (Stream T)
+none_taken n = replicate n (stream_of [])
+
+-- under this number nothing is among the values
+abbrev pub IsBlankAt : {T : Type 0} → List (Stream T) → ℕ → Type 0
+IsBlankAt values h = slice_get values h ≡ Some (stream_of [])
 
 module _ {T : Type 0} where
   -- the number under which a node of the piece reads a link
@@ -44,9 +52,9 @@ module _ {M T : Type 0} where
   abbrev pub hubs_of : Piece M T → List ℕ
   hubs_of p = map hub_of p.inlets.items
 
-  -- what hubs and links gave to the piece, where there are so many of both: its own links what came over them, all else nothing
-  abbrev pub taken_of : ℕ → Piece M T → List (Stream T)
-  taken_of n p = taken_by stream_of [] n (map came_of p.inlets.items)
+  -- what hubs and links gave to the piece: its own links what came over them, and the hubs these values
+  abbrev pub taken_of : List (Stream T) → Piece M T → List (Stream T)
+  taken_of hubs p = taken_by stream_of hubs (map came_of p.inlets.items)
 
   -- each end is that of the link with its number, no two links are read under one number, and the root edge and its end count alike
   pub record IsPieceOf (links : List (Link T)) (p : Piece M T) : Type 0 where
@@ -55,10 +63,11 @@ module _ {M T : Type 0} where
     pub apart : AreApart (hubs_of p)
     pub step : IsInStep p.part p.up
 
-  -- The equation of a piece since its opening, where there are so many hubs and links. What was sent is what was sent then, and what
-  -- came out since; each link that comes in stands as it should. What no step changes is as it was.
-  pub record StandsSince (b : Machine M T) (m : Meaning T) (n : ℕ) (opening p : Piece M T) : Type 0 where
+  -- The equation of a piece since its opening, where the hubs took in these values. What was sent is what was sent then, and what came out
+  -- since; each link that comes in stands as it should, and has no value there. What no step changes is as it was.
+  pub record StandsSince (b : Machine M T) (m : Meaning T) (hubs : List (Stream T)) (opening p : Piece M T) : Type 0 where
     pub links : (p.link ≡ opening.link) × (map numbers_of p.inlets.items ≡ map numbers_of opening.inlets.items)
     pub carried : carried_up p.up ≡ carried_up opening.up
-    pub part : PieceStands b m (taken_of n p) opening.part.tree (sent_signals opening.up) p.part p.up
-    pub ins : Each (λ (i : Incoming T). InletStands b (taken_of n p) p.part i.inlet) p.inlets.items
+    pub part : PieceStands b m (taken_of hubs p) opening.part.tree (sent_signals opening.up) p.part p.up
+    pub ins : Each (λ (i : Incoming T). InletStands b (taken_of hubs p) p.part i.inlet) p.inlets.items
+    pub blank : Each (λ (i : Incoming T). IsBlankAt hubs (hub_of i)) p.inlets.items

@@ -1,6 +1,6 @@
 -- Many pieces, side by side.
 use Rattle.std.specs.Prelude.{◌≡◌, ℕ, List, Some, length, slice_get, slice_set}
-use Rattle.rsx_sources.specs.Prelude.{Meaning}
+use Rattle.rsx_sources.specs.Prelude.{Meaning, Stream}
 use Rattle.rsx_sources.specs.declared.machine.Machine.{Ghosts as Machine}
 use Rattle.rsx_tree.specs.Runs.{Leads}
 use Rattle.rsx_link.specs.declared.link.Link.{Link}
@@ -20,10 +20,10 @@ module _ {M T : Type 0} where
   abbrev pub AreAtRest : Machine M T → Meaning T → List (Piece M T) → Type 0
   AreAtRest b m ps = Each (IsAtRest b m) ps
 
-  -- Each piece stands for what it stood for since its opening, where there are so many hubs and links. No piece came or went.
-  pub record RegionStands (b : Machine M T) (m : Meaning T) (n : ℕ) (opening now : List (Piece M T)) : Type 0 where
+  -- Each piece stands for what it stood for since its opening, where the hubs took in these values. No piece came or went.
+  pub record RegionStands (b : Machine M T) (m : Meaning T) (hubs : List (Stream T)) (opening now : List (Piece M T)) : Type 0 where
     pub count : length now ≡ length opening
-    pub each : (k : ℕ) (was is : Piece M T) → slice_get opening k ≡ Some was → slice_get now k ≡ Some is → StandsSince b m n was is
+    pub each : (k : ℕ) (was is : Piece M T) → slice_get opening k ≡ Some was → slice_get now k ≡ Some is → StandsSince b m hubs was is
 
   -- one piece made a step
   pub record IsStepOfOne (b : Machine M T) (m : Meaning T) (links : List (Link T)) (old : List (Piece M T)) (label : Step) (new : List (Piece M T)) : Type 0 where
@@ -48,7 +48,7 @@ module _ {M T : Type 0} where
     pub rests : IsAtRest b m is
 
   -- A region whenever no one works on it: each piece stands for what it stood for since the opening, and its ends are those of its links.
-  pub record RegionFits (b : Machine M T) (m : Meaning T) (k n : ℕ) (opening : List (Piece M T)) (links : List (Link T)) (r : Region M T) : Type 0 where
+  pub record RegionFits (b : Machine M T) (m : Meaning T) (k : ℕ) (hubs : List (Stream T)) (opening : List (Piece M T)) (links : List (Link T)) (r : Region M T) : Type 0 where
     pub number : r.number ≡ k
     pub ends : ArePiecesOf links r.pieces.items
-    pub stands : RegionStands b m n opening r.pieces.items
+    pub stands : RegionStands b m hubs opening r.pieces.items

@@ -1,6 +1,6 @@
 -- Elements that were put into rows.
 use Rattle.std.specs.Prelude.{◌≡◌, ℕ, List, [], ◌∷◌, ◌++◌, Some, length, map, slice_get, slice_set}
-use Rattle.rsx_sources.specs.Prelude.{Meaning}
+use Rattle.rsx_sources.specs.Prelude.{Meaning, Stream}
 use Rattle.rsx_sources.specs.declared.machine.Machine.{Ghosts as Machine}
 use Rattle.rsx_region.specs.Regions.{RegionStands}
 use Rattle.rsx_region.specs.declared.piece.Piece.{Piece}
@@ -27,6 +27,6 @@ module _ {M T : Type 0} where
   numbers_in rs = map (λ (r : Region M T). r.number) rs
 
   -- the pieces of each row stand for what those of the other row at its place stood for
-  pub record RowsStand (b : Machine M T) (m : Meaning T) (n : ℕ) (opening now : List (List (Piece M T))) : Type 0 where
+  pub record RowsStand (b : Machine M T) (m : Meaning T) (hubs : List (Stream T)) (opening now : List (List (Piece M T))) : Type 0 where
     pub count : length now ≡ length opening
-    pub each : (k : ℕ) (was is : List (Piece M T)) → slice_get opening k ≡ Some was → slice_get now k ≡ Some is → RegionStands b m n was is
+    pub each : (k : ℕ) (was is : List (Piece M T)) → slice_get opening k ≡ Some was → slice_get now k ≡ Some is → RegionStands b m hubs was is

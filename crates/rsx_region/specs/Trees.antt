@@ -1,6 +1,6 @@
 -- Trees that are cut at one edge after the other.
 use Rattle.std.specs.Prelude.{◌≡◌, ◌⊎◌, ◌≤◌, ◌^◌, ℕ, List, [], ◌∷◌, ◌++◌, Some, length, map, slice_get, slice_set}
-use Rattle.rsx_sources.specs.Prelude.{Meaning}
+use Rattle.rsx_sources.specs.Prelude.{Meaning, Stream}
 use Rattle.rsx_sources.specs.declared.machine.Machine.{Ghosts as Machine}
 use Rattle.rsx_rooted.specs.declared.nodes.CrossingNodes.{Ghosts as CrossingNodes}
 use Rattle.rsx_tree.specs.Runs.{Leads}
@@ -67,33 +67,33 @@ module _ {M T : Type 0} where
     pub ins : upper.inlets.items ≡ others ++ last ∷ []
     pub hub : hub_of last ≡ read
 
-  -- Pieces over whose links nothing came yet. Each stands for what it begins with, where there are so many hubs and links.
-  pub record IsOpen (b : Machine M T) (m : Meaning T) (n : ℕ) (s : Stage M T) : Type 0 where
+  -- Pieces over whose links nothing came yet. Each stands for what it begins with, where the hubs took in these values.
+  pub record IsOpen (b : Machine M T) (m : Meaning T) (hubs : List (Stream T)) (s : Stage M T) : Type 0 where
     pub ends : ArePiecesOf s.links s.pieces
     pub fresh : Each HasTakenNothing s.pieces
-    pub stands : Each (λ (p : Piece M T). StandsSince b m n p p) s.pieces
+    pub stands : Each (λ (p : Piece M T). StandsSince b m hubs p p) s.pieces
 
   -- such pieces were cut at this edge
-  pub record IsCutThere (b : Machine M T) (crossing : CrossingNodes M T) (m : Meaning T) (n : ℕ) (old : Stage M T) (edge : EdgeName) (new : Stage M T) : Type 0 where
+  pub record IsCutThere (b : Machine M T) (crossing : CrossingNodes M T) (m : Meaning T) (hubs : List (Stream T)) (old : Stage M T) (edge : EdgeName) (new : Stage M T) : Type 0 where
     pub before : Stage M T
     pub same : SameStage old before
-    pub opens : IsOpen b m n before
+    pub opens : IsOpen b m hubs before
     pub cut : IsOneCut b crossing before edge.above edge.at new
 
   -- the trees were cut at their edges one after the other, and nothing was done since
-  pub record AreCutFrom (b : Machine M T) (crossing : CrossingNodes M T) (m : Meaning T) (n : ℕ) (whole : Stage M T) (t : CutTrees M T) : Type 0 where
+  pub record AreCutFrom (b : Machine M T) (crossing : CrossingNodes M T) (m : Meaning T) (hubs : List (Stream T)) (whole : Stage M T) (t : CutTrees M T) : Type 0 where
     pub last : Stage M T
-    pub run : Leads (IsCutThere b crossing m n) whole (names_of t.edges.items) last
+    pub run : Leads (IsCutThere b crossing m hubs) whole (names_of t.edges.items) last
     pub same : SameStage last (stage_of t)
-    pub opens : IsOpen b m n (stage_of t)
+    pub opens : IsOpen b m hubs (stage_of t)
 
-  -- The trees were cut at their edges one after the other, and `opening` is what they were after that. Each piece stands for what it stood
-  -- for then.
-  pub record HaveGoneSince (b : Machine M T) (crossing : CrossingNodes M T) (m : Meaning T) (n : ℕ) (whole opening : Stage M T) (t : CutTrees M T) : Type 0 where
-    pub run : Leads (IsCutThere b crossing m n) whole (names_of t.edges.items) opening
+  -- The trees were cut at their edges one after the other, where the hubs had taken in `first`, and `opening` is what they were after that.
+  -- Each piece stands for what it stood for then, where they have taken in `hubs` by now.
+  pub record HaveGoneSince (b : Machine M T) (crossing : CrossingNodes M T) (m : Meaning T) (first hubs : List (Stream T)) (whole opening : Stage M T) (t : CutTrees M T) : Type 0 where
+    pub run : Leads (IsCutThere b crossing m first) whole (names_of t.edges.items) opening
     pub links : t.links.items ≡ opening.links
     pub ends : ArePiecesOf t.links.items t.pieces.items
-    pub stands : RegionStands b m n opening.pieces t.pieces.items
+    pub stands : RegionStands b m hubs opening.pieces t.pieces.items
 
   -- Why the piece at this place isn't cut there: there are as many links as there are numbers, or the piece itself isn't cut.
   abbrev pub StaysWholeAt : Machine M T → CrossingNodes M T → CutTrees M T → ℕ → ℕ → ℕ → Type 0
@@ -107,7 +107,8 @@ module _ {M T : Type 0} where
   -- so it is since some opening
   pub record CanBeJoined (b : Machine M T) (crossing : CrossingNodes M T) (t : CutTrees M T) : Type 0 where
     pub meaning : Meaning T
-    pub count : ℕ
+    pub first : List (Stream T)
+    pub hubs : List (Stream T)
     pub whole : Stage M T
     pub opening : Stage M T
-    pub since : HaveGoneSince b crossing meaning count whole opening t
+    pub since : HaveGoneSince b crossing meaning first hubs whole opening t

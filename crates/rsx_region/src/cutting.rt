@@ -7,8 +7,9 @@ ghost use Rattle.rsx_region.specs.Joined.{IsReader};
 ghost use Rattle.rsx_region.specs.Cuts.{AsksAsMuch, CannotFit, FitsBelow, HasNumbers, HasTakenNothing, IsCutOff, IsMadeFor, NoneReadsIn, NoneHasNumber, ReadsNone, SamePiece, StaysWhole};
 ghost use Rattle.rsx_region.specs.Halves.{AreHalves, halves_of};
 ghost use Rattle.rsx_region.specs.Joins.{IsCutFrom};
-ghost use Rattle.rsx_region.specs.Pieces.{IsPieceOf, StandsSince};
+ghost use Rattle.rsx_region.specs.Pieces.{IsBlankAt, IsPieceOf, StandsSince};
 ghost use Rattle.rsx_types.specs.Meaning.{Meaning};
+ghost use Rattle.rsx_types.specs.Stream.{Stream};
 ghost use Rattle.rsx_types.specs.declared.signal.Signal.TheVariants.{Next};
 
 use crate::halves::{Below, LINK_PLACES};
@@ -67,8 +68,8 @@ impl<N: CrossingNodes<Item = T> + Drop, T: Drop> Piece<N, T> {
         ensures numbers { IfOk result (λ b. HasNumbers at link hub self.new b) }
         ensures ends { IfOk result (λ b. (links : List (LinkSpec T)) → link ≡ length links → IsPieceOf links self.old →
             IsPieceOf (links ++ b.link ∷ []) self.new × IsPieceOf (links ++ b.link ∷ []) b.piece) }
-        ensures stands { IfOk result (λ b. (m : Meaning T) (n : ℕ) → hub < n → HasTakenNothing self.old → StandsSince N.Machine m n self.old self.old →
-            StandsSince N.Machine m n self.new self.new × StandsSince N.Machine m n b.piece b.piece) }
+        ensures stands { IfOk result (λ b. (m : Meaning T) (hubs : List (Stream T)) → IsBlankAt hubs hub → HasTakenNothing self.old → StandsSince N.Machine m hubs self.old self.old →
+            StandsSince N.Machine m hubs self.new self.new × StandsSince N.Machine m hubs b.piece b.piece) }
         ensures fresh { IfOk result (λ b. HasTakenNothing self.old → HasTakenNothing self.new × HasTakenNothing b.piece) }
         ensures whole { IfErr result (λ e. e ≡ NotCut.Whole → StaysWhole N.Machine N.CrossingNodes.own self.old at hub) }
         ensures same { OnErr result (SamePiece self.old self.new) }

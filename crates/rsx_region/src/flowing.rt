@@ -1,6 +1,7 @@
 //! Items that go through a piece one after the other.
 
-ghost use Rattle.std.specs.Prelude.{◌≡◌, ◌+◌, ◌≤◌, ℕ};
+ghost use Rattle.std.specs.Prelude.{◌≡◌, ◌+◌, ◌≤◌, ℕ, List};
+ghost use Rattle.rsx_types.specs.Stream.{Stream};
 ghost use Rattle.rsx_region.specs.Pieces.{IsPieceOf, StandsSince};
 ghost use Rattle.rsx_region.specs.Steps.{Goes};
 ghost use Rattle.rsx_region.specs.declared.piece.Piece.{Piece as PieceSpec};
@@ -30,7 +31,7 @@ impl<N: Nodes<Item = T>, T: Drop> Piece<N, T> {
         ensures run { Goes N.Machine (O.meaning ops.now) links.now result.moves result.pops self.old self.new }
         ensures most { result.moves + result.pops ≤ budget }
         ensures budget { result.answer ≡ Answer.Budget → result.moves + result.pops ≡ budget }
-        ensures stands { (n : ℕ) (opening : PieceSpec N T) → StandsSince N.Machine (O.meaning ops.now) n opening self.old → StandsSince N.Machine (O.meaning ops.now) n opening self.new }
+        ensures stands { (hubs : List (Stream T)) (opening : PieceSpec N T) → StandsSince N.Machine (O.meaning ops.now) hubs opening self.old → StandsSince N.Machine (O.meaning ops.now) hubs opening self.new }
     {
         let mut moves = 0;
         let mut pops = 0;
@@ -64,7 +65,7 @@ impl<N: Nodes<Item = T>, T: Drop> Piece<N, T> {
         ensures run { Goes N.Machine (O.meaning ops.now) links.now result.moves result.pops self.old self.new }
         ensures most { result.moves + result.pops ≤ budget }
         ensures budget { result.answer ≡ Answer.Budget → result.moves + result.pops ≡ budget }
-        ensures stands { (n : ℕ) (opening : PieceSpec N T) → StandsSince N.Machine (O.meaning ops.now) n opening self.old → StandsSince N.Machine (O.meaning ops.now) n opening self.new }
+        ensures stands { (hubs : List (Stream T)) (opening : PieceSpec N T) → StandsSince N.Machine (O.meaning ops.now) hubs opening self.old → StandsSince N.Machine (O.meaning ops.now) hubs opening self.new }
     {
         let moves = self.pull(alloc, ops, links, budget);
         let popped = self.pop_each(links, budget - moves);

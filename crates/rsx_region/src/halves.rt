@@ -15,6 +15,7 @@ ghost use Rattle.rsx_sources.specs.Counts.{ends_input};
 ghost use Rattle.rsx_tree.specs.Edges.{edge_view, is_live};
 ghost use Rattle.rsx_tree.specs.Stepped.{Station, station_of};
 ghost use Rattle.rsx_types.specs.Meaning.{Meaning};
+ghost use Rattle.rsx_types.specs.Stream.{Stream};
 ghost use Rattle.rsx_types.specs.declared.limits.TheConstants.{CAPACITY};
 ghost use Rattle.rsx_types.specs.declared.signal.Signal.TheVariants.{Next};
 
@@ -52,8 +53,8 @@ impl<N: CrossingNodes<Item = T> + Drop, T: Drop> Piece<N, T> {
         requires { AreHalves self.old below }
         ensures joined { OnOk result (IsJoinedBy self.old self.new) }
         ensures ends { OnOk result ((links : List (LinkSpec T)) → IsPieceOf (links ++ below.link ∷ []) self.old → HasNoOther (length links) self.new → IsPieceOf links self.new) }
-        ensures stands { OnOk result ((m : Meaning T) (n : ℕ) (was : PieceSpec N T) (opening : Halves N T) →
-            IsCutFrom N.Machine N.CrossingNodes.own was opening → HaveGone N.Machine m n opening (halves_of self.old below) → StandsSince N.Machine m n was was → StandsSince N.Machine m n was self.new) }
+        ensures stands { OnOk result ((m : Meaning T) (first hubs : List (Stream T)) (was : PieceSpec N T) (opening : Halves N T) →
+            IsCutFrom N.Machine N.CrossingNodes.own was opening → HaveGone N.Machine m hubs opening (halves_of self.old below) → StandsSince N.Machine m first was was → StandsSince N.Machine m hubs was self.new) }
         ensures refused { OnErr result (CannotJoin N.Machine N.CrossingNodes.own self.old.part below.at self.old.inlets.items below.piece.part) }
         ensures err { IfErr result (λ b. b ≡ below) }
         ensures same { OnErr result (self.new ≡ self.old) }

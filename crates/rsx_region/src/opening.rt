@@ -1,5 +1,6 @@
 //! What a gate keeps of a region.
 
+ghost use Rattle.rsx_region.specs.Pieces.{none_taken};
 ghost use Rattle.rsx_region.specs.Regions.{RegionFits};
 
 use crate::piece::Piece;
@@ -27,5 +28,5 @@ pub struct Opening<N, T, O> {
 
 // Whenever no one has the pass, each piece stands for what it stood for at the opening, and its ends are those of its links.
 impl<N: Nodes<Item = T>, T: Drop, O: Ops<Item = T>> Kept<Opening<N, T, O>> for Region<N, T> {
-    ghost fits = { λ key region. RegionFits N.Machine (O.meaning key.ops.value) key.number key.values key.pieces.value.items key.links.value.items region };
+    ghost fits = { λ key region. RegionFits N.Machine (O.meaning key.ops.value) key.number (none_taken key.values) key.pieces.value.items key.links.value.items region };
 }

@@ -2,6 +2,7 @@
 
 ghost use Rattle.std.specs.Prelude.{◌≡◌, ◌<◌, ◌≤◌, ℕ, List, [], false, Some, IfOk, ⊤, length, slice_get};
 ghost use Rattle.rsx_types.specs.Meaning.{Meaning};
+ghost use Rattle.rsx_types.specs.Stream.{Stream};
 ghost use Rattle.rsx_link.specs.Ends.{IsUpOf};
 ghost use Rattle.rsx_link.specs.declared.link.Link.{Link as LinkSpec};
 ghost use Rattle.rsx_tree.specs.Reads.{IsTreeReadAt};
@@ -55,7 +56,7 @@ impl<N: Nodes<Item = T>, T: Drop> Piece<N, T> {
     pub fn new(alloc: Global, part: Part<N>, link: u32, up: Up<T>) -> Piece<N, T>
         ensures made { (result.part ≡ part) × (result.link ≡ link) × (result.up ≡ up) × (result.inlets.items ≡ []) }
         ensures ends { (links : List (LinkSpec T)) → IsAt links link (λ l. IsUpOf l up) → IsInStep part up → IsPieceOf links result }
-        ensures stands { (m : Meaning T) (n : ℕ) → part.root.state ≡ EdgeState.Live → IsInStep part up → IsTreeReadAt N.Machine [] part.tree → StandsSince N.Machine m n result result }
+        ensures stands { (m : Meaning T) (hubs : List (Stream T)) → part.root.state ≡ EdgeState.Live → IsInStep part up → IsTreeReadAt N.Machine [] part.tree → StandsSince N.Machine m hubs result result }
     {
         Piece {
             part,
@@ -70,7 +71,7 @@ impl<N: Nodes<Item = T>, T: Drop> Piece<N, T> {
         requires { IsPieceOf links.now self.old }
         ensures ends { IsPieceOf links.now self.new }
         ensures run { (m : Meaning T) → Goes N.Machine m links.now 0 0 self.old self.new }
-        ensures stands { (m : Meaning T) (n : ℕ) (opening : PieceSpec N T) → StandsSince N.Machine m n opening self.old → StandsSince N.Machine m n opening self.new }
+        ensures stands { (m : Meaning T) (hubs : List (Stream T)) (opening : PieceSpec N T) → StandsSince N.Machine m hubs opening self.old → StandsSince N.Machine m hubs opening self.new }
         ensures seen { (m : Meaning T) → self.new.part.root.state ≡ EdgeState.Live → HasSeen self.old self.new }
     {
         let link = link_at(links, self.link);
@@ -83,7 +84,7 @@ impl<N: Nodes<Item = T>, T: Drop> Piece<N, T> {
         requires there { at < length self.old.inlets.items }
         ensures ends { IsPieceOf links.now self.new }
         ensures run { (m : Meaning T) → Goes N.Machine m links.now 0 0 self.old self.new }
-        ensures stands { (m : Meaning T) (n : ℕ) (opening : PieceSpec N T) → StandsSince N.Machine m n opening self.old → StandsSince N.Machine m n opening self.new }
+        ensures stands { (m : Meaning T) (hubs : List (Stream T)) (opening : PieceSpec N T) → StandsSince N.Machine m hubs opening self.old → StandsSince N.Machine m hubs opening self.new }
         ensures asked { HasPassedOn N.Machine at self.old self.new }
     {
         let incoming = &mut self.inlets[at];
@@ -102,7 +103,7 @@ impl<N: Nodes<Item = T>, T: Drop> Piece<N, T> {
         ensures ends { IsPieceOf links.now self.new }
         ensures run { (m : Meaning T) → Goes N.Machine m links.now 0 (done result) self.old self.new }
         ensures count { length self.new.inlets.items ≡ length self.old.inlets.items }
-        ensures stands { (m : Meaning T) (n : ℕ) (opening : PieceSpec N T) → StandsSince N.Machine m n opening self.old → StandsSince N.Machine m n opening self.new }
+        ensures stands { (m : Meaning T) (hubs : List (Stream T)) (opening : PieceSpec N T) → StandsSince N.Machine m hubs opening self.old → StandsSince N.Machine m hubs opening self.new }
         ensures left { IfOk result (λ b. b ≡ false → HasLeftOne N.Machine at self.old self.new) }
     {
         let incoming = &mut self.inlets[at];
@@ -123,7 +124,7 @@ impl<N: Nodes<Item = T>, T: Drop> Piece<N, T> {
         requires { IsPieceOf links.now self.old }
         ensures ends { IsPieceOf links.now self.new }
         ensures run { Goes N.Machine (O.meaning ops.now) links.now (done result) 0 self.old self.new }
-        ensures stands { (n : ℕ) (opening : PieceSpec N T) → StandsSince N.Machine (O.meaning ops.now) n opening self.old → StandsSince N.Machine (O.meaning ops.now) n opening self.new }
+        ensures stands { (hubs : List (Stream T)) (opening : PieceSpec N T) → StandsSince N.Machine (O.meaning ops.now) hubs opening self.old → StandsSince N.Machine (O.meaning ops.now) hubs opening self.new }
         ensures still { IfOk result (λ b. b ≡ false → HasStayed N.Machine (O.meaning ops.now) self.old self.new) }
     {
         if !self.part.root_edge().is_live() {
@@ -147,7 +148,7 @@ impl<N: Nodes<Item = T>, T: Drop> Piece<N, T> {
         ensures ends { IsPieceOf links.now self.new }
         ensures run { Goes N.Machine (O.meaning ops.now) links.now result 0 self.old self.new }
         ensures most { result ≤ budget }
-        ensures stands { (n : ℕ) (opening : PieceSpec N T) → StandsSince N.Machine (O.meaning ops.now) n opening self.old → StandsSince N.Machine (O.meaning ops.now) n opening self.new }
+        ensures stands { (hubs : List (Stream T)) (opening : PieceSpec N T) → StandsSince N.Machine (O.meaning ops.now) hubs opening self.old → StandsSince N.Machine (O.meaning ops.now) hubs opening self.new }
     {
         let link = link_at(links, self.link);
         pull(alloc, ops, &mut self.part, &mut self.up, link, budget)

@@ -1,6 +1,7 @@
 //! The pieces that one holder of a gate at a time works on.
 
 ghost use Rattle.std.specs.Prelude.{◌≡◌, ◌+◌, ◌<◌, ◌≤◌, ℕ, List, false, length};
+ghost use Rattle.rsx_types.specs.Stream.{Stream};
 ghost use Rattle.rsx_region.specs.Regions.{AreAtRest, ArePiecesOf, IsServedAt, RegionGoes, RegionStands};
 ghost use Rattle.rsx_region.specs.declared.piece.Piece.{Piece as PieceSpec};
 
@@ -42,7 +43,7 @@ impl<N: Nodes<Item = T>, T: Drop> Region<N, T> {
         ensures most { result.moves + result.pops ≤ budget }
         ensures budget { result.answer ≡ Answer.Budget → result.moves + result.pops ≡ budget }
         ensures idle { result.answer ≡ Answer.Idle → AreAtRest N.Machine (O.meaning ops.now) self.new.pieces.items }
-        ensures stands { (n : ℕ) (opening : List (PieceSpec N T)) → RegionStands N.Machine (O.meaning ops.now) n opening self.old.pieces.items → RegionStands N.Machine (O.meaning ops.now) n opening self.new.pieces.items }
+        ensures stands { (hubs : List (Stream T)) (opening : List (PieceSpec N T)) → RegionStands N.Machine (O.meaning ops.now) hubs opening self.old.pieces.items → RegionStands N.Machine (O.meaning ops.now) hubs opening self.new.pieces.items }
     {
         let mut moves = 0;
         let mut pops = 0;
@@ -86,7 +87,7 @@ impl<N: Nodes<Item = T>, T: Drop> Region<N, T> {
         ensures most { result.moves + result.pops ≤ budget }
         ensures budget { result.answer ≡ Answer.Budget → result.moves + result.pops ≡ budget }
         ensures idle { result.answer ≡ Answer.Idle → AreAtRest N.Machine (O.meaning ops.now) self.new.pieces.items }
-        ensures stands { (n : ℕ) (opening : List (PieceSpec N T)) → RegionStands N.Machine (O.meaning ops.now) n opening self.old.pieces.items → RegionStands N.Machine (O.meaning ops.now) n opening self.new.pieces.items }
+        ensures stands { (hubs : List (Stream T)) (opening : List (PieceSpec N T)) → RegionStands N.Machine (O.meaning ops.now) hubs opening self.old.pieces.items → RegionStands N.Machine (O.meaning ops.now) hubs opening self.new.pieces.items }
     {
         let mut moves = 0;
         let mut pops = 0;
@@ -121,7 +122,7 @@ impl<N: Nodes<Item = T>, T: Drop> Region<N, T> {
         ensures budget { result.answer ≡ Answer.Budget → result.moves + result.pops ≡ budget }
         ensures idle { result.answer ≡ Answer.Idle → IsServedAt N.Machine (O.meaning ops.now) at self.old.pieces.items self.new.pieces.items }
         ensures count { length self.new.pieces.items ≡ length self.old.pieces.items }
-        ensures stands { (n : ℕ) (opening : List (PieceSpec N T)) → RegionStands N.Machine (O.meaning ops.now) n opening self.old.pieces.items → RegionStands N.Machine (O.meaning ops.now) n opening self.new.pieces.items }
+        ensures stands { (hubs : List (Stream T)) (opening : List (PieceSpec N T)) → RegionStands N.Machine (O.meaning ops.now) hubs opening self.old.pieces.items → RegionStands N.Machine (O.meaning ops.now) hubs opening self.new.pieces.items }
     {
         self.pieces[at].serve(alloc, ops, links, budget)
     }

@@ -1,7 +1,8 @@
 //! A piece served under a budget.
 
-ghost use Rattle.std.specs.Prelude.{◌≡◌, ◌+◌, ◌<◌, ◌≤◌, ℕ};
+ghost use Rattle.std.specs.Prelude.{◌≡◌, ◌+◌, ◌<◌, ◌≤◌, ℕ, List};
 ghost use Rattle.rsx_types.specs.Meaning.{Meaning};
+ghost use Rattle.rsx_types.specs.Stream.{Stream};
 ghost use Rattle.rsx_region.specs.Pieces.{Each, IsPieceOf, StandsSince};
 ghost use Rattle.rsx_region.specs.Steps.{Goes};
 ghost use Rattle.rsx_region.specs.Serving.{AllPassedOn, HasLeftAll, HasRested, HasSeen, HasStayed, IsAtRest};
@@ -59,7 +60,7 @@ impl<N: Nodes<Item = T>, T: Drop> Piece<N, T> {
         ensures idle { result.answer ≡ Answer.Idle → IsAtRest N.Machine (O.meaning ops.now) self.new }
         ensures looked { result.answer ≡ Answer.Idle → self.new.part.root.state ≡ EdgeState.Live → HasSeen self.old self.new }
         ensures still { (self.old.part.root.state ≡ EdgeState.Live → ⊥) → HasRested self.old self.new }
-        ensures stands { (n : ℕ) (opening : PieceSpec N T) → StandsSince N.Machine (O.meaning ops.now) n opening self.old → StandsSince N.Machine (O.meaning ops.now) n opening self.new }
+        ensures stands { (hubs : List (Stream T)) (opening : PieceSpec N T) → StandsSince N.Machine (O.meaning ops.now) hubs opening self.old → StandsSince N.Machine (O.meaning ops.now) hubs opening self.new }
     {
         let mut moves = 0;
         let mut pops = 0;
@@ -96,7 +97,7 @@ impl<N: Nodes<Item = T>, T: Drop> Piece<N, T> {
         ensures budget { result.answer ≡ Answer.Budget → result.moves + result.pops ≡ budget }
         ensures idle { result.answer ≡ Answer.Idle → result.moves + result.pops ≡ 0 → IsAtRest N.Machine (O.meaning ops.now) self.new }
         ensures seen { result.answer ≡ Answer.Idle → result.moves + result.pops ≡ 0 → self.new.part.root.state ≡ EdgeState.Live → HasSeen self.old self.new }
-        ensures stands { (n : ℕ) (opening : PieceSpec N T) → StandsSince N.Machine (O.meaning ops.now) n opening self.old → StandsSince N.Machine (O.meaning ops.now) n opening self.new }
+        ensures stands { (hubs : List (Stream T)) (opening : PieceSpec N T) → StandsSince N.Machine (O.meaning ops.now) hubs opening self.old → StandsSince N.Machine (O.meaning ops.now) hubs opening self.new }
     {
         self.look(links);
         self.ask_each(links);
@@ -118,7 +119,7 @@ impl<N: Nodes<Item = T>, T: Drop> Piece<N, T> {
         ensures run { (m : Meaning T) → Goes N.Machine m links.now 0 0 self.old self.new }
         ensures asked { AllPassedOn N.Machine self.new }
         ensures same { (self.new.part ≡ self.old.part) × (self.new.up ≡ self.old.up) }
-        ensures stands { (m : Meaning T) (n : ℕ) (opening : PieceSpec N T) → StandsSince N.Machine m n opening self.old → StandsSince N.Machine m n opening self.new }
+        ensures stands { (m : Meaning T) (hubs : List (Stream T)) (opening : PieceSpec N T) → StandsSince N.Machine m hubs opening self.old → StandsSince N.Machine m hubs opening self.new }
     {
         for at in 0..self.inlets.len() {
             self.ask_at(at, links);
@@ -136,7 +137,7 @@ impl<N: Nodes<Item = T>, T: Drop> Piece<N, T> {
         ensures most { result.pops ≤ budget }
         ensures budget { result.answer ≡ Answer.Budget → result.pops ≡ budget }
         ensures idle { result.answer ≡ Answer.Idle → result.pops ≡ 0 → HasLeftAll N.Machine self.old self.new }
-        ensures stands { (m : Meaning T) (n : ℕ) (opening : PieceSpec N T) → StandsSince N.Machine m n opening self.old → StandsSince N.Machine m n opening self.new }
+        ensures stands { (m : Meaning T) (hubs : List (Stream T)) (opening : PieceSpec N T) → StandsSince N.Machine m hubs opening self.old → StandsSince N.Machine m hubs opening self.new }
     {
         let mut pops = 0;
         for at in 0..self.inlets.len() {
@@ -165,7 +166,7 @@ impl<N: Nodes<Item = T>, T: Drop> Piece<N, T> {
         ensures most { result.moves + result.pops ≤ budget }
         ensures budget { result.answer ≡ Answer.Budget → result.moves + result.pops ≡ budget }
         ensures idle { result.answer ≡ Answer.Idle → result.moves + result.pops ≡ 0 → HasStayed N.Machine (O.meaning ops.now) self.old self.new }
-        ensures stands { (n : ℕ) (opening : PieceSpec N T) → StandsSince N.Machine (O.meaning ops.now) n opening self.old → StandsSince N.Machine (O.meaning ops.now) n opening self.new }
+        ensures stands { (hubs : List (Stream T)) (opening : PieceSpec N T) → StandsSince N.Machine (O.meaning ops.now) hubs opening self.old → StandsSince N.Machine (O.meaning ops.now) hubs opening self.new }
     {
         let mut made = 0;
         let mut taken = 0;
@@ -201,7 +202,7 @@ impl<N: Nodes<Item = T>, T: Drop> Piece<N, T> {
         ensures most { result.moves + result.pops ≤ budget }
         ensures budget { result.answer ≡ Answer.Budget → result.moves + result.pops ≡ budget }
         ensures idle { result.answer ≡ Answer.Idle → result.moves + result.pops ≡ 0 → HasStayed N.Machine (O.meaning ops.now) self.old self.new }
-        ensures stands { (n : ℕ) (opening : PieceSpec N T) → StandsSince N.Machine (O.meaning ops.now) n opening self.old → StandsSince N.Machine (O.meaning ops.now) n opening self.new }
+        ensures stands { (hubs : List (Stream T)) (opening : PieceSpec N T) → StandsSince N.Machine (O.meaning ops.now) hubs opening self.old → StandsSince N.Machine (O.meaning ops.now) hubs opening self.new }
     {
         match self.step(alloc, ops, links) {
             Ok(true) => {

@@ -1,8 +1,9 @@
 //! Trees are cut at one edge after the other, and joined again.
 
-ghost use Rattle.std.specs.Prelude.{◌≡◌, ◌+◌, ◌<◌, ◌≤◌, ◌∷◌, ◌++◌, ℕ, [], true, false, length, IfErr, OnErr, OnOk};
+ghost use Rattle.std.specs.Prelude.{◌≡◌, ◌+◌, ◌<◌, ◌≤◌, ◌∷◌, ◌++◌, ℕ, List, [], true, false, length, IfErr, OnErr, OnOk};
 ghost use Rattle.std.specs.Vec.{vec_capacity};
 ghost use Rattle.rsx_types.specs.Meaning.{Meaning};
+ghost use Rattle.rsx_types.specs.Stream.{Stream};
 ghost use Rattle.rsx_region.specs.Cuts.{AreWhole, IsWhole};
 ghost use Rattle.rsx_region.specs.Regions.{ArePiecesOf, IsServedAt, RegionGoes};
 
@@ -47,12 +48,13 @@ pub struct CutTrees<N, T> {
 pub struct NotJoined;
 
 impl<N: CrossingNodes<Item = T> + Drop, T: Drop> CutTrees<N, T> {
+    ghost use Rattle.rsx_region.specs.Pieces.{IsBlankAt};
     ghost use Rattle.rsx_region.specs.Trees.{AreCutFrom, CanBeJoined, HaveGoneSince, IsOneCut, IsOpen, IsReadUnder, LastCannotJoin, SameStage, Stage, StaysWholeAt, names_of, stage_of};
 
     /// Trees none of which is cut. Each piece has one.
     pub fn new(alloc: Global, pieces: Vec<Piece<N, T>>, links: Vec<Link<T>>) -> CutTrees<N, T>
         ensures made { (result.pieces ≡ pieces) × (result.links ≡ links) × (result.edges.items ≡ []) }
-        ensures from { (m : Meaning T) (n : ℕ) → IsOpen N.Machine m n (stage_of result) → AreCutFrom N.Machine N.CrossingNodes.own m n (stage_of result) result }
+        ensures from { (m : Meaning T) (hubs : List (Stream T)) → IsOpen N.Machine m hubs (stage_of result) → AreCutFrom N.Machine N.CrossingNodes.own m hubs (stage_of result) result }
     {
         CutTrees {
             pieces,
@@ -63,7 +65,7 @@ impl<N: CrossingNodes<Item = T> + Drop, T: Drop> CutTrees<N, T> {
 
     /// Whether none is cut, no link comes into a piece, and the edge of each root is live. Then they can be cut, whatever was done before.
     pub fn are_whole(&self) -> bool
-        ensures from { result ≡ true → (m : Meaning T) (n : ℕ) (whole opening : Stage N T) → HaveGoneSince N.Machine N.CrossingNodes.own m n whole opening self.now → AreCutFrom N.Machine N.CrossingNodes.own m n (stage_of self.now) self.now }
+        ensures from { result ≡ true → (m : Meaning T) (first hubs : List (Stream T)) (whole opening : Stage N T) → HaveGoneSince N.Machine N.CrossingNodes.own m first hubs whole opening self.now → AreCutFrom N.Machine N.CrossingNodes.own m hubs (stage_of self.now) self.now }
         ensures yes { result ≡ true → (self.now.edges.items ≡ []) × AreWhole self.now.pieces.items }
         ensures no { result ≡ false → self.now.edges.items ≡ [] → AreWhole self.now.pieces.items → ⊥ }
     {
@@ -85,7 +87,7 @@ impl<N: CrossingNodes<Item = T> + Drop, T: Drop> CutTrees<N, T> {
         ensures most { result.moves + result.pops ≤ budget }
         ensures budget { result.answer ≡ Answer.Budget → result.moves + result.pops ≡ budget }
         ensures idle { result.answer ≡ Answer.Idle → IsServedAt N.Machine (O.meaning ops.now) at self.old.pieces.items self.new.pieces.items }
-        ensures since { (n : ℕ) (whole opening : Stage N T) → HaveGoneSince N.Machine N.CrossingNodes.own (O.meaning ops.now) n whole opening self.old → HaveGoneSince N.Machine N.CrossingNodes.own (O.meaning ops.now) n whole opening self.new }
+        ensures since { (first hubs : List (Stream T)) (whole opening : Stage N T) → HaveGoneSince N.Machine N.CrossingNodes.own (O.meaning ops.now) first hubs whole opening self.old → HaveGoneSince N.Machine N.CrossingNodes.own (O.meaning ops.now) first hubs whole opening self.new }
         ensures same { (self.new.links ≡ self.old.links) × (self.new.edges ≡ self.old.edges) }
     {
         self.pieces[at].serve(alloc, ops, &self.links, budget)
@@ -101,7 +103,7 @@ impl<N: CrossingNodes<Item = T> + Drop, T: Drop> CutTrees<N, T> {
         ensures cut { OnOk result (IsOneCut N.Machine N.CrossingNodes.own (stage_of self.old) above at (stage_of self.new)) }
         ensures hub { OnOk result (IsReadUnder hub above self.new.pieces.items) }
         ensures named { OnOk result (names_of self.new.edges.items ≡ names_of self.old.edges.items ++ record { above = above; at = at } ∷ []) }
-        ensures from { (m : Meaning T) (n : ℕ) (whole : Stage N T) → hub < n → AreCutFrom N.Machine N.CrossingNodes.own m n whole self.old → AreCutFrom N.Machine N.CrossingNodes.own m n whole self.new }
+        ensures from { (m : Meaning T) (hubs : List (Stream T)) (whole : Stage N T) → IsBlankAt hubs hub → AreCutFrom N.Machine N.CrossingNodes.own m hubs whole self.old → AreCutFrom N.Machine N.CrossingNodes.own m hubs whole self.new }
         ensures whole { IfErr result (λ e. e ≡ NotCut.Whole → StaysWholeAt N.Machine N.CrossingNodes.own self.old above at hub) }
         ensures same { OnErr result (SameStage (stage_of self.old) (stage_of self.new) × (names_of self.new.edges.items ≡ names_of self.old.edges.items)) }
     {
@@ -141,8 +143,8 @@ impl<N: CrossingNodes<Item = T> + Drop, T: Drop> CutTrees<N, T> {
         requires since { CanBeJoined N.Machine N.CrossingNodes.own self.old }
         requires some { 0 < length self.old.edges.items }
         ensures count { OnOk result (length self.new.edges.items + 1 ≡ length self.old.edges.items) }
-        ensures since { OnOk result ((m : Meaning T) (n : ℕ) (whole opening : Stage N T) → HaveGoneSince N.Machine N.CrossingNodes.own m n whole opening self.old →
-            (before : Stage N T) × HaveGoneSince N.Machine N.CrossingNodes.own m n whole before self.new) }
+        ensures since { OnOk result ((m : Meaning T) (first hubs : List (Stream T)) (whole opening : Stage N T) → HaveGoneSince N.Machine N.CrossingNodes.own m first hubs whole opening self.old →
+            (before : Stage N T) × HaveGoneSince N.Machine N.CrossingNodes.own m first hubs whole before self.new) }
         ensures refused { OnErr result (LastCannotJoin N.Machine N.CrossingNodes.own self.old) }
         ensures same { OnErr result ((stage_of self.new ≡ stage_of self.old) × (names_of self.new.edges.items ≡ names_of self.old.edges.items)) }
     {
@@ -199,8 +201,8 @@ impl<N: CrossingNodes<Item = T> + Drop, T: Drop> CutTrees<N, T> {
         requires { CanBeJoined N.Machine N.CrossingNodes.own self.old }
         ensures none { OnOk result (self.new.edges.items ≡ []) }
         ensures refused { OnErr result (LastCannotJoin N.Machine N.CrossingNodes.own self.new) }
-        ensures whole { OnOk result ((m : Meaning T) (n : ℕ) (whole opening : Stage N T) → HaveGoneSince N.Machine N.CrossingNodes.own m n whole opening self.old → HaveGoneSince N.Machine N.CrossingNodes.own m n whole whole self.new) }
-        ensures since { (m : Meaning T) (n : ℕ) (whole opening : Stage N T) → HaveGoneSince N.Machine N.CrossingNodes.own m n whole opening self.old → (before : Stage N T) × HaveGoneSince N.Machine N.CrossingNodes.own m n whole before self.new }
+        ensures whole { OnOk result ((m : Meaning T) (first hubs : List (Stream T)) (whole opening : Stage N T) → HaveGoneSince N.Machine N.CrossingNodes.own m first hubs whole opening self.old → HaveGoneSince N.Machine N.CrossingNodes.own m first hubs whole whole self.new) }
+        ensures since { (m : Meaning T) (first hubs : List (Stream T)) (whole opening : Stage N T) → HaveGoneSince N.Machine N.CrossingNodes.own m first hubs whole opening self.old → (before : Stage N T) × HaveGoneSince N.Machine N.CrossingNodes.own m first hubs whole before self.new }
     {
         for _ in 0..self.edges.len() {
             self.join_last()?;

@@ -7,7 +7,7 @@ use Rattle.rsx_tree.specs.Runs.{Leads}
 use Rattle.rsx_gate.specs.declared.gate.Gate.{Gate}
 use Rattle.rsx_gate.specs.Seats.{key_of}
 use Rattle.rsx_link.specs.declared.link.Link.{Link}
-use Rattle.rsx_region.specs.Pieces.{Each, IsPieceOf}
+use Rattle.rsx_region.specs.Pieces.{Each, IsPieceOf, none_taken}
 use Rattle.rsx_region.specs.Regions.{ArePiecesOf, RegionStands}
 use Rattle.rsx_region.specs.Spread.{RowsStand, rows_of}
 use Rattle.rsx_region.specs.Trees.{EdgeName, HaveGoneSince, IsCutThere, Stage, names_of}
@@ -34,29 +34,29 @@ module _ {M T O : Type 0} (b : Machine M T) (meaning : O → Meaning T) (links :
   later : (P : TheGate → Type 0) (g : TheGate) (gs : List TheGate) → Each P (g ∷ gs) → P g × Each P gs
   later P g gs all = (all 0 g refl, λ k x at. all (suc k) x at)
 
-  one_stands : (g : TheGate) (r : Region M T) → IsOf g → Fits b meaning (key_of g) r → RegionStands b (meaning ops) n (opened_with g) r.pieces.items
+  one_stands : (g : TheGate) (r : Region M T) → IsOf g → Fits b meaning (key_of g) r → RegionStands b (meaning ops) (none_taken n) (opened_with g) r.pieces.items
   one_stands g r is fits =
-      let F : O → Type 0 = λ o. RegionStands b (meaning o) (key_of g).values (opened_with g) r.pieces.items in
-      let N : ℕ → Type 0 = λ k. RegionStands b (meaning ops) k (opened_with g) r.pieces.items in
+      let F : O → Type 0 = λ o. RegionStands b (meaning o) (none_taken (key_of g).values) (opened_with g) r.pieces.items in
+      let N : ℕ → Type 0 = λ k. RegionStands b (meaning ops) (none_taken k) (opened_with g) r.pieces.items in
       subst N is.1 (subst F is.0.1 fits.stands)
 
   one_ends : (g : TheGate) (r : Region M T) → IsOf g → Fits b meaning (key_of g) r → ArePiecesOf links r.pieces.items
   one_ends g r is fits = subst (λ (ls : List (Link T)). ArePiecesOf ls r.pieces.items) is.0.0 fits.ends
 
-  pub more_rows : (was is : List (Piece M T)) (opening now : List (List (Piece M T))) → RegionStands b (meaning ops) n was is → RowsStand b (meaning ops) n opening now → RowsStand b (meaning ops) n (was ∷ opening) (is ∷ now)
+  pub more_rows : (was is : List (Piece M T)) (opening now : List (List (Piece M T))) → RegionStands b (meaning ops) (none_taken n) was is → RowsStand b (meaning ops) (none_taken n) opening now → RowsStand b (meaning ops) (none_taken n) (was ∷ opening) (is ∷ now)
   more_rows was is opening now one rest = record { count = ap suc rest.count; each = of }
     where
-      of : (k : ℕ) (p q : List (Piece M T)) → slice_get (was ∷ opening) k ≡ Some p → slice_get (is ∷ now) k ≡ Some q → RegionStands b (meaning ops) n p q
+      of : (k : ℕ) (p q : List (Piece M T)) → slice_get (was ∷ opening) k ≡ Some p → slice_get (is ∷ now) k ≡ Some q → RegionStands b (meaning ops) (none_taken n) p q
       of zero p q first second =
           let p_is : was ≡ p = cc in
           let q_is : is ≡ q = cc in
-          subst (λ (x : List (Piece M T)). RegionStands b (meaning ops) n x q) p_is (subst (λ (x : List (Piece M T)). RegionStands b (meaning ops) n was x) q_is one)
+          subst (λ (x : List (Piece M T)). RegionStands b (meaning ops) (none_taken n) x q) p_is (subst (λ (x : List (Piece M T)). RegionStands b (meaning ops) (none_taken n) was x) q_is one)
       of (suc k) p q first second = rest.each k p q first second
 
   nothing_there : {A : Type 0} (k : ℕ) (x : A) → slice_get [] k ≡ Some x → ⊥
   nothing_there k x e = cc
 
-  pub rows_stand : (gates : List TheGate) (regions : List (Region M T)) → Each IsOf gates → HaveFitting b meaning gates regions → RowsStand b (meaning ops) n (map opened_with gates) (rows_of regions)
+  pub rows_stand : (gates : List TheGate) (regions : List (Region M T)) → Each IsOf gates → HaveFitting b meaning gates regions → RowsStand b (meaning ops) (none_taken n) (map opened_with gates) (rows_of regions)
   rows_stand [] [] all h = record { count = refl; each = λ k p q first second. absurd (nothing_there k p first) }
   rows_stand [] (r ∷ rs) all h = absurd h
   rows_stand (g ∷ gs) [] all h = absurd h
@@ -80,22 +80,22 @@ module _ {M T O : Type 0} (b : Machine M T) (crossing : CrossingNodes M T) (mean
   known : Each (IsOf b meaning live.links.items live.ops n) live.gates.items
   known k g at = (live.opened k g at, is.values k g at)
 
-  pub stand : StandIn b (meaning live.ops) n plan.places.items is.begun.pieces (rows_of regions)
-  stand = stand_in b (meaning live.ops) n is.base plan.places.items is.begun.pieces (map opened_with live.gates.items) (rows_of regions) is.spread (rows_stand b meaning live.links.items live.ops n live.gates.items regions known fit)
+  pub stand : StandIn b (meaning live.ops) (none_taken n) plan.places.items is.begun.pieces (rows_of regions)
+  stand = stand_in b (meaning live.ops) (none_taken n) is.base plan.places.items is.begun.pieces (map opened_with live.gates.items) (rows_of regions) is.spread (rows_stand b meaning live.links.items live.ops n live.gates.items regions known fit)
 
-  pub come_back : (t : CutTrees M T) → t.pieces.items ≡ stand.pieces → t.links ≡ live.links → t.edges ≡ plan.edges → (opening : Stage M T) × HaveGoneSince b crossing (meaning live.ops) n whole opening t
+  pub come_back : (t : CutTrees M T) → t.pieces.items ≡ stand.pieces → t.links ≡ live.links → t.edges ≡ plan.edges → (opening : Stage M T) × HaveGoneSince b crossing (meaning live.ops) (none_taken n) (none_taken n) whole opening t
   come_back t pieces links edges =
       let ls = live.links.items in
       let L : List (Link T) → Type 0 = λ x. ArePiecesOf x t.pieces.items in
       let P : List (Piece M T) → Type 0 = λ ps. ArePiecesOf ls ps in
-      let R : List (Piece M T) → Type 0 = λ ps. RegionStands b (meaning live.ops) n is.opening.pieces ps in
-      let N : List EdgeName → Type 0 = λ es. Leads (IsCutThere b crossing (meaning live.ops) n) whole es is.opening in
+      let R : List (Piece M T) → Type 0 = λ ps. RegionStands b (meaning live.ops) (none_taken n) is.opening.pieces ps in
+      let N : List EdgeName → Type 0 = λ es. Leads (IsCutThere b crossing (meaning live.ops) (none_taken n)) whole es is.opening in
       let ends = each_in (IsPieceOf ls) stand.base plan.places.items stand.pieces (rows_of regions) stand.are (rows_end b meaning ls live.ops n live.gates.items regions known fit) in (
         is.opening,
         record {
           run = subst N (sym (ap (λ v. names_of v.items) edges)) is.run;
           links = ap (λ v. v.items) links ∙ (is.links ∙ is.same.links);
           ends = subst L (sym (ap (λ v. v.items) links)) (subst P (sym pieces) ends);
-          stands = subst R (sym pieces) (stand_same b (meaning live.ops) n is.opening is.begun stand.pieces is.same stand.stand);
+          stands = subst R (sym pieces) (stand_same b (meaning live.ops) (none_taken n) is.opening is.begun stand.pieces is.same stand.stand);
         },
       )

@@ -6,7 +6,7 @@ use Rattle.std.proofs.lemmas.Slice.Zip.{AllZip-long}
 use Rattle.std.specs.Prelude.{Err, IfErr, IfOk, Ok, OnErr, OnOk, Result, is_err}
 use Rattle.rsx_types.proofs.Lists.{slice_get_behind}
 use Rattle.rsx_region.proofs.Between.{front_there}
-use Rattle.rsx_region.specs.Pieces.{Each, IsPieceOf, StandsSince}
+use Rattle.rsx_region.specs.Pieces.{Each, IsPieceOf, StandsSince, none_taken}
 use Rattle.rsx_region.specs.Spread.{AreIn, RowsStand, numbers_in, rows_of}
 use Rattle.rsx_region.specs.Trees.{AreCutFrom, EdgeName, HaveGoneSince, IsCutThere, Stage, names_of, stage_of}
 use Rattle.rsx_region.specs.declared.trees.CutTrees.{CutTrees}
@@ -99,9 +99,9 @@ module _ {M T O : Type 0} (b : Machine M T) (meaning : O → Meaning T) (links :
 
   came_back : (r : Region M T) (g : TheGate) (s : Region M T) → IsGateFor links ops n r g → Fits b meaning (key_of g) s → IsBackOf b (meaning ops) n links r s
   came_back r g s for fits =
-      let F : O → Type 0 = λ o. RegionStands b (meaning o) (key_of g).values (key_of g).pieces.value.items s.pieces.items in
-      let N : ℕ → Type 0 = λ k. RegionStands b (meaning ops) k (key_of g).pieces.value.items s.pieces.items in
-      let P : List (Piece M T) → Type 0 = λ ps. RegionStands b (meaning ops) n ps s.pieces.items in
+      let F : O → Type 0 = λ o. RegionStands b (meaning o) (none_taken (key_of g).values) (key_of g).pieces.value.items s.pieces.items in
+      let N : ℕ → Type 0 = λ k. RegionStands b (meaning ops) (none_taken k) (key_of g).pieces.value.items s.pieces.items in
+      let P : List (Piece M T) → Type 0 = λ ps. RegionStands b (meaning ops) (none_taken n) ps s.pieces.items in
       record {
         number = fits.number ∙ for.number;
         ends = subst (λ (ls : List (Link T)). ArePiecesOf ls s.pieces.items) for.ends fits.ends;
@@ -146,7 +146,7 @@ module _ {M T O : Type 0} (b : Machine M T) (meaning : O → Meaning T) (links :
   rows_opened (r ∷ rs) [] h = absurd h
   rows_opened (r ∷ rs) (g ∷ gs) h = ap (λ x. x ∷ rows_of rs) (sym h.0.pieces) ∙ ap (λ l. opened_with g ∷ l) (rows_opened rs gs h.1)
 
-  pub back_rows : (rs ss : List (Region M T)) → AreBackOf b (meaning ops) n links rs ss → RowsStand b (meaning ops) n (rows_of rs) (rows_of ss) × Each (ArePiecesOf links) (rows_of ss)
+  pub back_rows : (rs ss : List (Region M T)) → AreBackOf b (meaning ops) n links rs ss → RowsStand b (meaning ops) (none_taken n) (rows_of rs) (rows_of ss) × Each (ArePiecesOf links) (rows_of ss)
   back_rows [] [] h = (record { count = refl; each = λ k p q first second. absurd (nothing_there k p first) }, λ k x at. absurd (nothing_there k x at))
   back_rows [] (s ∷ ss) h = absurd h
   back_rows (r ∷ rs) [] h = absurd h
@@ -154,8 +154,8 @@ module _ {M T O : Type 0} (b : Machine M T) (meaning : O → Meaning T) (links :
       let rest = back_rows rs ss h.1 in
       (more_rows b meaning links ops n r.pieces.items s.pieces.items (rows_of rs) (rows_of ss) h.0.stands rest.0, each_first (ArePiecesOf links) s.pieces.items (rows_of ss) h.0.ends rest.1)
 
-  row_stands : (row : List (Piece M T)) → Each (λ (p : Piece M T). StandsSince b (meaning ops) n p p) row → RegionStands b (meaning ops) n row row
-  row_stands row all = record { count = refl; each = λ k p q first second. subst (λ (x : Piece M T). StandsSince b (meaning ops) n p x) (same_some p q (sym first ∙ second)) (all k p first) }
+  row_stands : (row : List (Piece M T)) → Each (λ (p : Piece M T). StandsSince b (meaning ops) (none_taken n) p p) row → RegionStands b (meaning ops) (none_taken n) row row
+  row_stands row all = record { count = refl; each = λ k p q first second. subst (λ (x : Piece M T). StandsSince b (meaning ops) (none_taken n) p x) (same_some p q (sym first ∙ second)) (all k p first) }
 
   none_each : (P : Piece M T → Type 0) (rs : List (Region M T)) → Each (λ (r : Region M T). r.pieces.items ≡ []) rs → Each (λ (row : List (Piece M T)). Each P row) (rows_of rs)
   none_each P [] all k x at = absurd (nothing_there k x at)
@@ -165,9 +165,9 @@ module _ {M T O : Type 0} (b : Machine M T) (meaning : O → Meaning T) (links :
       subst E (sym (all 0 r refl) ∙ is) (λ j y there. absurd (nothing_there j y there))
   none_each P (r ∷ rs) all (suc k) x at = none_each P rs (λ j y there. all (suc j) y there) k x at
 
-  pub are_ready : (empty rs : List (Region M T)) (ps : List ℕ) (xs : List (Piece M T)) → Each (λ (r : Region M T). r.pieces.items ≡ []) empty → AreIn (rows_of empty) ps xs (rows_of rs) → ArePiecesOf links xs → Each (λ (p : Piece M T). StandsSince b (meaning ops) n p p) xs → Each (IsReady b (meaning ops) n links) rs
+  pub are_ready : (empty rs : List (Region M T)) (ps : List ℕ) (xs : List (Piece M T)) → Each (λ (r : Region M T). r.pieces.items ≡ []) empty → AreIn (rows_of empty) ps xs (rows_of rs) → ArePiecesOf links xs → Each (λ (p : Piece M T). StandsSince b (meaning ops) (none_taken n) p p) xs → Each (IsReady b (meaning ops) n links) rs
   are_ready empty rs ps xs none h ends stands k r at =
-      let S : Piece M T → Type 0 = λ p. StandsSince b (meaning ops) n p p in
+      let S : Piece M T → Type 0 = λ p. StandsSince b (meaning ops) (none_taken n) p p in
       let there = get_map (λ (x : Region M T). x.pieces.items) rs k r at in
       record {
         ends = rows_each (IsPieceOf links) (rows_of empty) ps xs (rows_of rs) h (none_each (IsPieceOf links) empty none) ends k r.pieces.items there;
@@ -177,23 +177,23 @@ module _ {M T O : Type 0} (b : Machine M T) (meaning : O → Meaning T) (links :
 -- ---- the trees come back
 
 module _ {M T O : Type 0} (b : Machine M T) (crossing : CrossingNodes M T) (meaning : O → Meaning T) (ops : O) (n : ℕ) (whole : Stage M T) (trees : CutTrees M T) (base : List (List (Piece M T))) (places : List ℕ) (rs ss : List (Region M T)) (spread : AreIn base places trees.pieces.items (rows_of rs)) (back : AreBackOf b (meaning ops) n trees.links.items rs ss) where
-  pub back_in : StandIn b (meaning ops) n places trees.pieces.items (rows_of ss)
-  back_in = stand_in b (meaning ops) n base places trees.pieces.items (rows_of rs) (rows_of ss) spread (back_rows b meaning trees.links.items ops n rs ss back).0
+  pub back_in : StandIn b (meaning ops) (none_taken n) places trees.pieces.items (rows_of ss)
+  back_in = stand_in b (meaning ops) (none_taken n) base places trees.pieces.items (rows_of rs) (rows_of ss) spread (back_rows b meaning trees.links.items ops n rs ss back).0
 
-  pub trees_back : (new : CutTrees M T) → new.pieces.items ≡ back_in.pieces → new.links ≡ trees.links → new.edges ≡ trees.edges → AreCutFrom b crossing (meaning ops) n whole trees → (opening : Stage M T) × HaveGoneSince b crossing (meaning ops) n whole opening new
+  pub trees_back : (new : CutTrees M T) → new.pieces.items ≡ back_in.pieces → new.links ≡ trees.links → new.edges ≡ trees.edges → AreCutFrom b crossing (meaning ops) (none_taken n) whole trees → (opening : Stage M T) × HaveGoneSince b crossing (meaning ops) (none_taken n) (none_taken n) whole opening new
   trees_back new pieces links edges w =
       let ls = trees.links.items in
       let L : List (Link T) → Type 0 = λ x. ArePiecesOf x new.pieces.items in
       let P : List (Piece M T) → Type 0 = λ ps. ArePiecesOf ls ps in
-      let R : List (Piece M T) → Type 0 = λ ps. RegionStands b (meaning ops) n w.last.pieces ps in
-      let N : List EdgeName → Type 0 = λ es. Leads (IsCutThere b crossing (meaning ops) n) whole es w.last in
+      let R : List (Piece M T) → Type 0 = λ ps. RegionStands b (meaning ops) (none_taken n) w.last.pieces ps in
+      let N : List EdgeName → Type 0 = λ es. Leads (IsCutThere b crossing (meaning ops) (none_taken n)) whole es w.last in
       let ends = each_in (IsPieceOf ls) back_in.base places back_in.pieces (rows_of ss) back_in.are (back_rows b meaning ls ops n rs ss back).1 in (
         w.last,
         record {
           run = subst N (sym (ap (λ v. names_of v.items) edges)) w.run;
           links = ap (λ v. v.items) links ∙ w.same.links;
           ends = subst L (sym (ap (λ v. v.items) links)) (subst P (sym pieces) ends);
-          stands = subst R (sym pieces) (stand_same b (meaning ops) n w.last (stage_of trees) back_in.pieces w.same back_in.stand);
+          stands = subst R (sym pieces) (stand_same b (meaning ops) (none_taken n) w.last (stage_of trees) back_in.pieces w.same back_in.stand);
         },
       )
 

@@ -8,6 +8,7 @@ use Rattle.rsx_gate.specs.Machine.{all_parts}
 use Rattle.rsx_gate.specs.declared.gate.Gate.{Gate}
 use Rattle.rsx_gate.specs.Seats.{IsSeatOf, key_of}
 use Rattle.rsx_link.specs.declared.link.Link.{Link}
+use Rattle.rsx_region.specs.Pieces.{none_taken}
 use Rattle.rsx_region.specs.Regions.{ArePiecesOf, RegionStands}
 use Rattle.rsx_region.specs.declared.opening.Opening.{Opening}
 use Rattle.rsx_region.specs.declared.region.Region.{Region}
@@ -38,13 +39,13 @@ module _ {M T : Type 0} where
   -- the region stands for what it begins with
   pub record IsReady (b : Machine M T) (m : Meaning T) (n : ℕ) (links : List (Link T)) (r : Region M T) : Type 0 where
     pub ends : ArePiecesOf links r.pieces.items
-    pub stands : RegionStands b m n r.pieces.items r.pieces.items
+    pub stands : RegionStands b m (none_taken n) r.pieces.items r.pieces.items
 
   -- it came back, and stands for what it stood for
   pub record IsBackOf (b : Machine M T) (m : Meaning T) (n : ℕ) (links : List (Link T)) (was is : Region M T) : Type 0 where
     pub number : is.number ≡ was.number
     pub ends : ArePiecesOf links is.pieces.items
-    pub stands : RegionStands b m n was.pieces.items is.pieces.items
+    pub stands : RegionStands b m (none_taken n) was.pieces.items is.pieces.items
 
   abbrev pub AreBackOf : Machine M T → Meaning T → ℕ → List (Link T) → List (Region M T) → List (Region M T) → Type 0
   AreBackOf b m n links was is = AllZip (IsBackOf b m n links) was is

@@ -6,7 +6,7 @@ use Rattle.rsx_rooted.specs.declared.nodes.CrossingNodes.{Ghosts as CrossingNode
 use Rattle.rsx_tree.specs.Runs.{Leads}
 use Rattle.rsx_gate.specs.declared.gate.Gate.{Gate}
 use Rattle.rsx_gate.specs.Seats.{key_of}
-use Rattle.rsx_region.specs.Pieces.{Each}
+use Rattle.rsx_region.specs.Pieces.{Each, none_taken}
 use Rattle.rsx_region.specs.Spread.{AreIn}
 use Rattle.rsx_region.specs.Trees.{IsCutThere, SameStage, Stage, names_of}
 use Rattle.rsx_region.specs.declared.opening.Opening.{Opening}
@@ -24,7 +24,7 @@ module _ {M T O : Type 0} where
   -- put into the region at its place, whose gate was opened with those pieces, where there are so many hubs and links.
   pub record IsLiveOf (b : Machine M T) (crossing : CrossingNodes M T) (meaning : O → Meaning T) (n : ℕ) (whole : Stage M T) (live : Live M T O) (plan : Plan M T) : Type 0 where
     pub opening : Stage M T
-    pub run : Leads (IsCutThere b crossing (meaning live.ops) n) whole (names_of plan.edges.items) opening
+    pub run : Leads (IsCutThere b crossing (meaning live.ops) (none_taken n)) whole (names_of plan.edges.items) opening
     pub begun : Stage M T
     pub same : SameStage opening begun
     pub links : live.links.items ≡ begun.links

@@ -8,6 +8,7 @@ use Rattle.rsx_gate.specs.Plays.{IsHeld}
 use Rattle.rsx_gate.specs.Seats.{key_of}
 use Rattle.rsx_sources.specs.Prelude.{Meaning}
 use Rattle.rsx_sources.specs.declared.machine.Machine.{Ghosts as Machine}
+use Rattle.rsx_region.specs.Pieces.{none_taken}
 use Rattle.rsx_region.specs.Regions.{RegionFits}
 use Rattle.rsx_region.specs.declared.opening.Opening.{Opening}
 use Rattle.rsx_region.specs.declared.region.Region.{Region}
@@ -38,7 +39,7 @@ IsGateOf links ops g = ((key_of g).links.value.items ≡ links) × ((key_of g).o
 
 -- what the gate keeps of its region: it fits the key
 abbrev pub Fits : {M T O : Type 0} → Machine M T → (O → Meaning T) → Opening M T O → Region M T → Type 0
-Fits b meaning key r = RegionFits b (meaning key.ops.value) key.number key.values key.pieces.value.items key.links.value.items r
+Fits b meaning key r = RegionFits b (meaning key.ops.value) key.number (none_taken key.values) key.pieces.value.items key.links.value.items r
 
 -- so much holds of some region, and that fits the gate's key
 abbrev pub HasFitting : {M T O : Type 0} → Machine M T → (O → Meaning T) → Gate (Region M T) (Opening M T O) → (Region M T → Type 0) → Type 0

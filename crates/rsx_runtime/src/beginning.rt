@@ -5,7 +5,7 @@ ghost use Rattle.std.specs.List.{AllZip};
 ghost use Rattle.rsx_gate.specs.Machine.{all_parts};
 ghost use Rattle.rsx_gate.specs.Seats.{IsSeatOf};
 ghost use Rattle.std.specs.Vec.{vec_capacity};
-ghost use Rattle.rsx_region.specs.Pieces.{Each};
+ghost use Rattle.rsx_region.specs.Pieces.{Each, none_taken};
 ghost use Rattle.rsx_region.specs.declared.region.Region.{Region as RegionSpec};
 
 use crate::closing::Plan;
@@ -182,13 +182,13 @@ impl<N: CrossingNodes<Item = T> + Drop, T: Drop, O: Ops<Item = T>> Live<N, T, O>
     ) -> Result<Begun<N, T, O>, (O, CutTrees<N, T>, Vec<u8>)>
         requires count { length places.items ≡ length trees.pieces.items }
         requires there { Each (λ p. p < count) places.items }
-        requires from { (whole : Stage N T) × AreCutFrom N.Machine N.CrossingNodes.own (O.meaning ops) values whole trees }
-        ensures live { IfOk result (λ s. (whole : Stage N T) → AreCutFrom N.Machine N.CrossingNodes.own (O.meaning ops) values whole trees → IsLiveOf N.Machine N.CrossingNodes.own O.meaning values whole s.live s.plan) }
+        requires from { (whole : Stage N T) × AreCutFrom N.Machine N.CrossingNodes.own (O.meaning ops) (none_taken values) whole trees }
+        ensures live { IfOk result (λ s. (whole : Stage N T) → AreCutFrom N.Machine N.CrossingNodes.own (O.meaning ops) (none_taken values) whole trees → IsLiveOf N.Machine N.CrossingNodes.own O.meaning values whole s.live s.plan) }
         ensures seats { IfOk result (λ s. AllZip (λ g x. IsSeatOf g x × (all_parts ≤ x.me.0.parts)) s.live.gates.items s.seats.items) }
         ensures gates { IfOk result (λ s. (length s.live.gates.items ≡ count) × (s.live.ops ≡ ops) × (s.live.links ≡ trees.links)) }
         ensures room { IfOk result (λ s. length s.live.gates.items ≤ vec_capacity s.plan.regions) }
         ensures err { IfErr result (λ e. (e.0 ≡ ops) × (e.2 ≡ places)) }
-        ensures since { IfErr result (λ e. (whole : Stage N T) → AreCutFrom N.Machine N.CrossingNodes.own (O.meaning ops) values whole trees → (opening : Stage N T) × HaveGoneSince N.Machine N.CrossingNodes.own (O.meaning ops) values whole opening e.1) }
+        ensures since { IfErr result (λ e. (whole : Stage N T) → AreCutFrom N.Machine N.CrossingNodes.own (O.meaning ops) (none_taken values) whole trees → (opening : Stage N T) × HaveGoneSince N.Machine N.CrossingNodes.own (O.meaning ops) (none_taken values) (none_taken values) whole opening e.1) }
     {
         let Ok(mut room) = Gated::with_room(alloc, count) else {
             return Err((ops, trees, places));

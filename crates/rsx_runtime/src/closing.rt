@@ -28,6 +28,7 @@ pub struct Plan<N, T> {
 }
 
 impl<N: CrossingNodes<Item = T> + Drop, T: Drop, O: Ops<Item = T>> Live<N, T, O> {
+    ghost use Rattle.rsx_region.specs.Pieces.{none_taken};
     ghost use Rattle.rsx_region.specs.Trees.{HaveGoneSince, Stage};
     ghost use Rattle.rsx_runtime.specs.Closing.{IsLive, IsLiveOf};
 
@@ -39,7 +40,7 @@ impl<N: CrossingNodes<Item = T> + Drop, T: Drop, O: Ops<Item = T>> Live<N, T, O>
         requires live { IsLive N.Machine N.CrossingNodes.own O.meaning self plan }
         requires room { length self.gates.items ≤ vec_capacity plan.regions }
         ensures since { (n : ℕ) (whole : Stage N T) → IsLiveOf N.Machine N.CrossingNodes.own O.meaning n whole self plan →
-            (opening : Stage N T) × HaveGoneSince N.Machine N.CrossingNodes.own (O.meaning self.ops) n whole opening result.0 }
+            (opening : Stage N T) × HaveGoneSince N.Machine N.CrossingNodes.own (O.meaning self.ops) (none_taken n) (none_taken n) whole opening result.0 }
         ensures same { (result.1 ≡ self.ops) × (result.0.links ≡ self.links) × (result.0.edges ≡ plan.edges) }
     {
         let Live { gates, links, ops } = self;

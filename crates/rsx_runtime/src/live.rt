@@ -3,7 +3,7 @@
 ghost use Rattle.std.specs.Prelude.{◌≡◌, ◌<◌, ◌||◌, nat_lt, ⊤, [], IfErr, IfOk, MatchBool, Some, length, slice_get};
 ghost use Rattle.rsx_gate.specs.Machine.{founder};
 ghost use Rattle.rsx_gate.specs.Seats.{Holds, IsGone, IsMissed, IsSeatOf, Marked, key_of};
-ghost use Rattle.rsx_region.specs.Pieces.{Each, IsAt};
+ghost use Rattle.rsx_region.specs.Pieces.{Each, IsAt, none_taken};
 ghost use Rattle.rsx_region.specs.Regions.{ArePiecesOf, RegionStands};
 ghost use Rattle.rsx_runtime.specs.Passing.{HasServed};
 ghost use Rattle.rsx_runtime.specs.Poking.{HasFitting, IsAdded, IsAmong, IsGateOf, Went};
@@ -80,7 +80,7 @@ impl<N: Nodes<Item = T>, T: Drop, O: Ops<Item = T>> Live<N, T, O> {
         region: Region<N, T>,
     ) -> Result<RegionSeat<N, T, O>, Region<N, T>>
         requires ends { ArePiecesOf self.old.links.items region.pieces.items }
-        requires stands { RegionStands N.Machine (O.meaning self.old.ops) values region.pieces.items region.pieces.items }
+        requires stands { RegionStands N.Machine (O.meaning self.old.ops) (none_taken values) region.pieces.items region.pieces.items }
         ensures ok { IfOk result (λ s. IsAdded self.old.gates.items self.new.gates.items (λ g. IsSeatOf g s × (s.me.0 ≡ founder (key_of g)) × (key_of g).number ≡ region.number)) }
         ensures err { IfErr result (λ r. (r ≡ region) × (self.new.gates.items ≡ self.old.gates.items)) }
         ensures same { (self.new.links ≡ self.old.links) × (self.new.ops ≡ self.old.ops) }

@@ -1,4 +1,5 @@
 use Rattle.std.proofs.Common.{◌≡◌, ◌+◌, ◌<◌, ◌^◌, inl, inr, refl, sym, ap, ◌∙◌, subst, length, Some, arith}
+use Rattle.rsx_region.specs.Pieces.{none_taken}
 use Rattle.rsx_region.specs.Trees.{AreCutFrom}
 use Rattle.rsx_region.specs.declared.trees.CutTrees.{CutTrees}
 use Rattle.rsx_live.specs.Cutting.{sweep_of}
@@ -74,8 +75,8 @@ loop-at-preserved g c =
         ],
       );
       from = elim c.if-crosses.branch [
-        | then-crosses+in_ok-below w ↦ (λ m n whole most k. subst (λ (t : CutTrees _ _). AreCutFrom g.N.Machine g.N.CrossingNodes m n whole t) (sym w.trees-is) (w.cut_at.ensures.from m n whole most (i.from m n whole most k)))
-        | else-crosses w ↦ (λ m n whole most k. subst (λ (t : CutTrees _ _). AreCutFrom g.N.Machine g.N.CrossingNodes m n whole t) (sym w.trees-is) (i.from m n whole most k))
+        | then-crosses+in_ok-below w ↦ (λ m n whole most k. subst (λ (t : CutTrees _ _). AreCutFrom g.N.Machine g.N.CrossingNodes m (none_taken n) whole t) (sym w.trees-is) (w.cut_at.ensures.from m n whole most (i.from m n whole most k)))
+        | else-crosses w ↦ (λ m n whole most k. subst (λ (t : CutTrees _ _). AreCutFrom g.N.Machine g.N.CrossingNodes m (none_taken n) whole t) (sym w.trees-is) (i.from m n whole most k))
       ];
     }
 

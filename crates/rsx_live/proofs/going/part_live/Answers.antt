@@ -1,5 +1,6 @@
 use Rattle.std.proofs.lemmas.Result.{IfErr-weaker, IfOk-weaker}
 use Rattle.std.proofs.Common.{◌∙◌, ap, length, sym, subst, Vec, Global}
+use Rattle.rsx_region.specs.Pieces.{none_taken}
 use Rattle.rsx_live.specs.Kept.{AllMustStay}
 use Rattle.rsx_live.specs.Lives.{most_numbers}
 use Rattle.rsx_live.specs.declared.kept.Kept.{Kept}
@@ -11,13 +12,13 @@ give_back-requires-after_bounds g c κs within =
     let m = g.O.Ops.meaning c.args.ops in
     let p = c.args.parted in
     let k = c.requires.out in
-    (k.0, gone_of g.N.Machine m g.N.CrossingNodes k.0 p.kept.items p.taps.items c.new-trees.result (cut_first g.N.Machine g.N.CrossingNodes m k.0 p.kept.items p.taps.items p.pieces p.links c.new-trees.result k.1 c.new-trees.ensures.made (λ o. c.new-trees.ensures.from m most_numbers o)))
+    (k.0, gone_of g.N.Machine m g.N.CrossingNodes k.0 p.kept.items p.taps.items c.new-trees.result (cut_first g.N.Machine g.N.CrossingNodes m k.0 p.kept.items p.taps.items p.pieces p.links c.new-trees.result k.1 c.new-trees.ensures.made (λ o. c.new-trees.ensures.from m (none_taken most_numbers) o)))
 
 pub returns-then-refused-clause-err : goal.returns-then-refused-clause-err
 returns-then-refused-clause-err g c = λ subs out.
     let m = g.O.Ops.meaning c.args.ops in
     let p = c.args.parted in
-    c.give_back.ensures subs (gone_of g.N.Machine m g.N.CrossingNodes subs p.kept.items p.taps.items c.new-trees.result (cut_first g.N.Machine g.N.CrossingNodes m subs p.kept.items p.taps.items p.pieces p.links c.new-trees.result out c.new-trees.ensures.made (λ o. c.new-trees.ensures.from m most_numbers o)))
+    c.give_back.ensures subs (gone_of g.N.Machine m g.N.CrossingNodes subs p.kept.items p.taps.items c.new-trees.result (cut_first g.N.Machine g.N.CrossingNodes m subs p.kept.items p.taps.items p.pieces p.links c.new-trees.result out c.new-trees.ensures.made (λ o. c.new-trees.ensures.from m (none_taken most_numbers) o)))
 
 pub cut_all-requires-clause-taps : goal.cut_all-requires-clause-taps
 cut_all-requires-clause-taps g c =
@@ -31,14 +32,14 @@ give_back-requires-in_default-after_bounds g c κs within =
     let m = g.O.Ops.meaning c.args.ops in
     let p = c.args.parted in
     let k = c.requires.out in
-    let first = cut_first g.N.Machine g.N.CrossingNodes m k.0 p.kept.items p.taps.items p.pieces p.links c.new-trees.result k.1 c.new-trees.ensures.made (λ o. c.new-trees.ensures.from m most_numbers o) in
+    let first = cut_first g.N.Machine g.N.CrossingNodes m k.0 p.kept.items p.taps.items p.pieces p.links c.new-trees.result k.1 c.new-trees.ensures.made (λ o. c.new-trees.ensures.from m (none_taken most_numbers) o) in
     (k.0, gone_of g.N.Machine m g.N.CrossingNodes k.0 p.kept.items p.taps.items c.cut_all.new.trees (still_cut g.N.Machine g.N.CrossingNodes m k.0 p.kept.items p.taps.items c.new-trees.result c.cut_all.new.trees first (λ n whole most cut. c.cut_all.ensures.from m n whole most cut)))
 
 pub returns-in_default-clause-err : goal.returns-in_default-clause-err
 returns-in_default-clause-err g c = λ subs out.
     let m = g.O.Ops.meaning c.args.ops in
     let p = c.args.parted in
-    let first = cut_first g.N.Machine g.N.CrossingNodes m subs p.kept.items p.taps.items p.pieces p.links c.new-trees.result out c.new-trees.ensures.made (λ o. c.new-trees.ensures.from m most_numbers o) in
+    let first = cut_first g.N.Machine g.N.CrossingNodes m subs p.kept.items p.taps.items p.pieces p.links c.new-trees.result out c.new-trees.ensures.made (λ o. c.new-trees.ensures.from m (none_taken most_numbers) o) in
     c.give_back-in_default.ensures subs (gone_of g.N.Machine m g.N.CrossingNodes subs p.kept.items p.taps.items c.cut_all.new.trees (still_cut g.N.Machine g.N.CrossingNodes m subs p.kept.items p.taps.items c.new-trees.result c.cut_all.new.trees first (λ n whole most cut. c.cut_all.ensures.from m n whole most cut)))
 
 pub begin-requires-clause-from : goal.begin-requires-clause-from
@@ -46,21 +47,21 @@ begin-requires-clause-from g c κs within =
     let m = g.O.Ops.meaning c.args.ops in
     let p = c.args.parted in
     let k = c.requires.out in
-    let first = cut_first g.N.Machine g.N.CrossingNodes m k.0 p.kept.items p.taps.items p.pieces p.links c.new-trees.result k.1 c.new-trees.ensures.made (λ o. c.new-trees.ensures.from m most_numbers o) in
+    let first = cut_first g.N.Machine g.N.CrossingNodes m k.0 p.kept.items p.taps.items p.pieces p.links c.new-trees.result k.1 c.new-trees.ensures.made (λ o. c.new-trees.ensures.from m (none_taken most_numbers) o) in
     (k.0, still_cut g.N.Machine g.N.CrossingNodes m k.0 p.kept.items p.taps.items c.new-trees.result c.cut_all.new.trees first (λ n whole most cut. c.cut_all.ensures.from m n whole most cut))
 
 pub returns-clause-live : goal.returns-clause-live
 returns-clause-live g c = IfOk-weaker c.begin.result _ _ (λ s h subs out.
     let m = g.O.Ops.meaning c.args.ops in
     let p = c.args.parted in
-    let first = cut_first g.N.Machine g.N.CrossingNodes m subs p.kept.items p.taps.items p.pieces p.links c.new-trees.result out c.new-trees.ensures.made (λ o. c.new-trees.ensures.from m most_numbers o) in
+    let first = cut_first g.N.Machine g.N.CrossingNodes m subs p.kept.items p.taps.items p.pieces p.links c.new-trees.result out c.new-trees.ensures.made (λ o. c.new-trees.ensures.from m (none_taken most_numbers) o) in
     h subs (still_cut g.N.Machine g.N.CrossingNodes m subs p.kept.items p.taps.items c.new-trees.result c.cut_all.new.trees first (λ n whole most cut. c.cut_all.ensures.from m n whole most cut))) c.begin.ensures.live
 
 pub returns-clause-err : goal.returns-clause-err
 returns-clause-err g c = IfErr-weaker c.begin.result _ _ (λ e h subs out.
     let m = g.O.Ops.meaning c.args.ops in
     let p = c.args.parted in
-    let first = cut_first g.N.Machine g.N.CrossingNodes m subs p.kept.items p.taps.items p.pieces p.links c.new-trees.result out c.new-trees.ensures.made (λ o. c.new-trees.ensures.from m most_numbers o) in
+    let first = cut_first g.N.Machine g.N.CrossingNodes m subs p.kept.items p.taps.items p.pieces p.links c.new-trees.result out c.new-trees.ensures.made (λ o. c.new-trees.ensures.from m (none_taken most_numbers) o) in
     h subs (still_cut g.N.Machine g.N.CrossingNodes m subs p.kept.items p.taps.items c.new-trees.result c.cut_all.new.trees first (λ n whole most cut. c.cut_all.ensures.from m n whole most cut))) c.begin.ensures.err
 
 pub returns-clause-stay : goal.returns-clause-stay

@@ -34,8 +34,8 @@ returns-clause-asked g c =
     asked_passed g.N.Machine c.args.self.now _ c.args.at was is (record { there = read_there c.args.self.now c.args.at was c.requires.there c.index_mut-incoming.ensures.value; put = refl; number = refl; hub = end.2; carried = end.0.3; link = refl; up = refl }) refl c.ask.ensures.asked
 
 pub returns-clause-stands : goal.returns-clause-stands
-returns-clause-stands g c m n opening h =
+returns-clause-stands g c m hubs opening h =
     let was = c.index_mut-incoming.result.now in
     let is : Incoming g.row.T.Denot = record { link = was.link; inlet = c.ask.new.self } in
     let end = c.ask.ensures.end in
-    stands_asked g.N.Machine m n opening c.args.self.now _ c.args.at was is (record { there = read_there c.args.self.now c.args.at was c.requires.there c.index_mut-incoming.ensures.value; put = refl; number = refl; hub = end.2; carried = end.0.3; link = refl; up = refl }) refl end.0.1 (λ taken k. c.ask.ensures.stands taken k) h
+    stands_asked g.N.Machine m hubs opening c.args.self.now _ c.args.at was is (record { there = read_there c.args.self.now c.args.at was c.requires.there c.index_mut-incoming.ensures.value; put = refl; number = refl; hub = end.2; carried = end.0.3; link = refl; up = refl }) refl end.0.1 (λ taken k. c.ask.ensures.stands taken k) h

@@ -7,7 +7,7 @@ use Rattle.rsx_link.specs.Link.{total}
 use Rattle.rsx_link.specs.Steps.{asked_of, cancel_count, seen_of}
 use Rattle.rsx_region.specs.Joined.{IsReader}
 use Rattle.rsx_region.specs.Cuts.{AsksAsMuch, CannotFit, NoneHasNumber, NoneReadsIn, ReadsNone}
-use Rattle.rsx_region.specs.Pieces.{Each}
+use Rattle.rsx_region.specs.Pieces.{Each, IsBlankAt}
 use Rattle.rsx_region.specs.declared.piece.Incoming.{Incoming}
 use Rattle.rsx_region.proofs.Between.{between}
 use Rattle.rsx_region.proofs.Cuts.{positive, pushed_onto, sent_over}
@@ -65,15 +65,15 @@ returns-clause-cut g c =
 
 pub returns-clause-stands : goal.returns-clause-stands
 unfolding returns-clause-cut
-returns-clause-stands g c = λ m n within nothing ws.
+returns-clause-stands g c = λ m hubs within nothing ws.
     let b = g.N.Machine in
     let made = c.in-Ok.ensures in
     let opened = made.opened in
     let off = c.in-Some-cut_part.ensures.some in
     let cut = returns-clause-cut g c in
-    let N : ℕ → Type 0 = λ h. h < n in
+    let N : ℕ → Type 0 = λ h. IsBlankAt hubs h in
     let A : ℕ → Type 0 = λ h. AsksAsMuch b h c.in-Some.edge c.cut_part.new.part in
-    both_stand b g.N.CrossingNodes g.met.N.CrossingNodes.holds m n c.args.self.now _ c.in-Some.edge cut (record {
+    both_stand b g.N.CrossingNodes g.met.N.CrossingNodes.holds m hubs c.args.self.now _ c.in-Some.edge cut (record {
       live = off.fits.live;
       asked = off.fits.asked;
       seen = ap seen_of (c.send_all.ensures.same.1 ∙ opened.up.1);

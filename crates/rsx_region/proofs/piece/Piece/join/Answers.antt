@@ -27,7 +27,7 @@ returns-clause-joined g c =
     ]
 
 pub returns-clause-stands : goal.returns-clause-stands
-returns-clause-stands g c = λ m n was opening cut gone ws.
+returns-clause-stands g c = λ m first hubs was opening cut gone ws.
     let b = g.N.Machine in
     let crossing = g.N.CrossingNodes in
     let laws = g.met.N.CrossingNodes in
@@ -43,7 +43,7 @@ returns-clause-stands g c = λ m n was opening cut gone ws.
           let I : Piece _ _ → Type 0 = λ q. now.inlets.items ≡ q.inlets.items ++ last ∷ [] in
           let joined : IsJoinedBy now p = record { last = last; ins = subst I (sym w.self-is) ins; link = ap (λ (q : Piece _ _). q.link) w.self-is; up = ap (λ (q : Piece _ _). q.up) w.self-is; root = ap (λ (q : Piece _ _). q.part.root) w.self-is ∙ w.join_going.ensures.root } in
           let can = c.in-Some.ensures.going c.pop.new.self.items last read w.in-true.is in
-          joined_on b crossing laws.holds m n was opening (halves_of now c.args.below) p last cut gone ws joined.ins joined joined.up can.none
+          joined_on b crossing laws.holds m first hubs was opening (halves_of now c.args.below) p last cut gone ws joined.ins joined joined.up can.none
           (joins_whole b crossing laws.holds laws.reads_counted (after_moves b crossing local laws.holds laws.reads_on))
           (joins_whole_ended b crossing laws.holds laws.reads_counted (after_ending b crossing local laws.holds laws.reads_on)) can (subst J (sym w.self-is) w.join_going.ensures.put)
       | in-false w ↦
@@ -51,7 +51,7 @@ returns-clause-stands g c = λ m n was opening cut gone ws.
           let I : Piece _ _ → Type 0 = λ q. now.inlets.items ≡ q.inlets.items ++ last ∷ [] in
           let joined : IsJoinedBy now p = record { last = last; ins = subst I (sym w.self-is) ins; link = ap (λ (q : Piece _ _). q.link) w.self-is; up = ap (λ (q : Piece _ _). q.up) w.self-is; root = ap (λ (q : Piece _ _). q.part.root) w.self-is ∙ w.join_ended.ensures.root } in
           let can = c.in-Some.ensures.ended c.pop.new.self.items last read w.in-false.is in
-          joined_over b crossing laws.holds m n was opening (halves_of now c.args.below) p last cut gone ws joined.ins laws.reads_still laws.holds_ending
+          joined_over b crossing laws.holds m first hubs was opening (halves_of now c.args.below) p last cut gone ws joined.ins laws.reads_still laws.holds_ending
           (joins_whole_at_end b crossing laws.holds laws.holds_ending (at_end b crossing local laws.holds laws.holds_ending laws.reads_on laws.reads_ended)) joined joined.up can (subst J (sym w.self-is) w.join_ended.ensures.put)
     ]
 

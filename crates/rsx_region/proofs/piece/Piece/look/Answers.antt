@@ -16,7 +16,7 @@ pub returns-clause-run : goal.returns-clause-run
 returns-clause-run g c m = looked_goes g.N.Machine m c.args.links.now c.args.self.now _ c.link_at-link.result.now c.look.result c.link_at-link.ensures (refl, refl) (c.look.ensures.looked m) c.look.ensures.live c.look.ensures.none
 
 pub returns-clause-stands : goal.returns-clause-stands
-returns-clause-stands g c m n opening h = stands_root g.N.Machine m n opening c.args.self.now _ (refl, refl) (looked_carried g.N.Machine m c.link_at-link.result.now c.args.self.now.part c.look.new.part c.args.self.now.up c.look.new.up c.look.result (c.look.ensures.looked m) c.look.ensures.none) (λ taken old queued k. c.look.ensures.stands m taken old queued k) (λ taken i k. c.look.ensures.inlets taken i k) h
+returns-clause-stands g c m hubs opening h = stands_root g.N.Machine m hubs opening c.args.self.now _ (refl, refl) (looked_carried g.N.Machine m c.link_at-link.result.now c.args.self.now.part c.look.new.part c.args.self.now.up c.look.new.up c.look.result (c.look.ensures.looked m) c.look.ensures.none) (λ taken old queued k. c.look.ensures.stands m taken old queued k) (λ taken i k. c.look.ensures.inlets taken i k) h
 
 pub returns-clause-seen : goal.returns-clause-seen
 returns-clause-seen g c m live = looked_seen g.N.Machine m c.link_at-link.result.now c.args.self.now _ c.look.result (c.look.ensures.looked m) c.look.ensures.none live

@@ -39,9 +39,9 @@ returns-clause-left g c =
     popped_left g.N.Machine c.args.self.now _ c.link_at-link.result.now c.args.at was is c.pop.result (record { there = read_there c.args.self.now c.args.at was c.requires.there c.index_mut-incoming.ensures.value; put = refl; number = refl; hub = end.1; carried = end.4; link = refl; up = refl }) end c.pop.ensures.left
 
 pub returns-clause-stands : goal.returns-clause-stands
-returns-clause-stands g c m n opening h =
+returns-clause-stands g c m hubs opening h =
     let was = c.index_mut-incoming.result.now in
     let is : Incoming g.row.T.Denot = record { link = was.link; inlet = c.pop.new.self } in
     let end = c.pop.ensures.end in
-    stands_popped g.N.Machine m n opening c.args.self.now _ c.args.at was is (record { there = read_there c.args.self.now c.args.at was c.requires.there c.index_mut-incoming.ensures.value; put = refl; number = refl; hub = end.1; carried = end.4; link = refl; up = refl }) c.requires.ends.apart
+    stands_popped g.N.Machine m hubs opening c.args.self.now _ c.args.at was is (record { there = read_there c.args.self.now c.args.at was c.requires.there c.index_mut-incoming.ensures.value; put = refl; number = refl; hub = end.1; carried = end.4; link = refl; up = refl }) c.requires.ends.apart
     (λ taken old queued up come k. c.pop.ensures.stands m taken old queued up come k) (λ taken k. c.pop.ensures.own taken k) (λ taken other apart come k. c.pop.ensures.others taken other apart come k) h

@@ -9,7 +9,7 @@ returns-in-Err-clause-run g c m =
     goes_then g.N.Machine m c.args.links.now 0 n 0 0 0 c.outcome-in-Err.result.pops c.args.self.now c.loop-at.self c.pop_at.new.self refl (plus_none n c.outcome-in-Err.result.pops c.outcome-in-Err.ensures.2) (c.loop-at.invariant.run m) (c.in-Err.ensures.run m)
 
 pub returns-in-Err-clause-stands : goal.returns-in-Err-clause-stands
-returns-in-Err-clause-stands g c m n opening h = c.in-Err.ensures.stands m n opening (c.loop-at.invariant.stands m n opening h)
+returns-in-Err-clause-stands g c m hubs opening h = c.in-Err.ensures.stands m hubs opening (c.loop-at.invariant.stands m hubs opening h)
 
 pub loop-at-preserved : goal.loop-at-preserved
 loop-at-preserved g c =

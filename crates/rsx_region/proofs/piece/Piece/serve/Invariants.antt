@@ -1,4 +1,5 @@
-use Rattle.std.proofs.Common.{◌+◌, ◌-◌, ◌≤◌, ℕ}
+use Rattle.std.proofs.Common.{◌+◌, ◌-◌, ◌≤◌, ℕ, List}
+use Rattle.rsx_types.specs.Stream.{Stream}
 use Rattle.rsx_region.specs.Pieces.{IsPieceOf, StandsSince}
 use Rattle.rsx_region.specs.Steps.{Goes}
 use Rattle.rsx_region.specs.declared.piece.Piece.{Piece}
@@ -9,7 +10,7 @@ invariant-loop-moves g l =
     let m = g.O.Ops.meaning l.ops in record {
       ends : IsPieceOf l.links l.self;
       run : Goes g.N.Machine m l.links l.moves l.pops l.fn.self l.self;
-      stands : (n : ℕ) (opening : Piece g.row.N.Denot g.row.T.Denot) → StandsSince g.N.Machine m n opening l.fn.self → StandsSince g.N.Machine m n opening l.self;
+      stands : (hubs : List (Stream g.row.T.Denot)) (opening : Piece g.row.N.Denot g.row.T.Denot) → StandsSince g.N.Machine m hubs opening l.fn.self → StandsSince g.N.Machine m hubs opening l.self;
       most : l.moves + l.pops ≤ l.budget;
     }
 

@@ -20,7 +20,7 @@ pub returns-clause-still : goal.returns-clause-still
 returns-clause-still g c = stepped_stayed g.N.Machine (g.O.Ops.meaning c.args.ops.now) c.args.self.now _ c.link_at-link.result.now c.step.result (refl, refl) c.step.ensures.end c.step.ensures.still
 
 pub returns-clause-stands : goal.returns-clause-stands
-returns-clause-stands g c n opening h = stands_root g.N.Machine (g.O.Ops.meaning c.args.ops.now) n opening c.args.self.now _ (refl, refl) c.step.ensures.end.2 (λ taken old queued k. c.step.ensures.stands taken old queued k) (λ taken i k. c.step.ensures.inlets taken i k) h
+returns-clause-stands g c hubs opening h = stands_root g.N.Machine (g.O.Ops.meaning c.args.ops.now) hubs opening c.args.self.now _ (refl, refl) c.step.ensures.end.2 (λ taken old queued k. c.step.ensures.stands taken old queued k) (λ taken i k. c.step.ensures.inlets taken i k) h
 
 pub returns-then-not-is_live-clause-run : goal.returns-then-not-is_live-clause-run
 returns-then-not-is_live-clause-run g c = goes_none g.N.Machine (g.O.Ops.meaning c.args.ops.now) c.args.links.now c.args.self.now

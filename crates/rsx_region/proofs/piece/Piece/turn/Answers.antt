@@ -31,9 +31,9 @@ returns-in-Idle-clause-seen g c e none live =
     turn_seen g.N.Machine m c.args.self.now c.look.new.self c.ask_each.new.self c.pop_each-popped.new.self c.move_on-rest.new.self (c.look.ensures.seen m) c.ask_each.ensures.same.0 c.ask_each.ensures.same.1 (c.pop_each-popped.ensures.idle c.in-Idle.is no_pops) (c.move_on-rest.ensures.idle (sym c.outcome.ensures.0 ∙ e) none_after) live
 
 pub returns-in-Idle-clause-stands : goal.returns-in-Idle-clause-stands
-returns-in-Idle-clause-stands g c n opening h =
+returns-in-Idle-clause-stands g c hubs opening h =
     let m = g.O.Ops.meaning c.args.ops.now in
-    c.move_on-rest.ensures.stands n opening (c.pop_each-popped.ensures.stands m n opening (c.ask_each.ensures.stands m n opening (c.look.ensures.stands m n opening h)))
+    c.move_on-rest.ensures.stands hubs opening (c.pop_each-popped.ensures.stands m hubs opening (c.ask_each.ensures.stands m hubs opening (c.look.ensures.stands m hubs opening h)))
 
 pub returns-in-Budget : goal.returns-in-Budget
 returns-in-Budget g c =

@@ -8,13 +8,13 @@ pub returns-in-NoMemory-clause-run : goal.returns-in-NoMemory-clause-run
 returns-in-NoMemory-clause-run g c = region_goes_then g.N.Machine (g.O.Ops.meaning c.args.ops.now) c.args.links.now c.loop-at.moves c.loop-at.pops c.serve_at-one.result.moves c.serve_at-one.result.pops c.outcome.result.moves c.outcome.result.pops c.args.self.now.pieces.items c.loop-at.self.pieces.items c.serve_at-one.new.self.pieces.items (sym c.outcome.ensures.1) (sym c.outcome.ensures.2) c.loop-at.invariant.run c.serve_at-one.ensures.run
 
 pub returns-in-NoMemory-clause-stands : goal.returns-in-NoMemory-clause-stands
-returns-in-NoMemory-clause-stands g c n opening h = c.serve_at-one.ensures.stands n opening (c.loop-at.invariant.stands n opening h)
+returns-in-NoMemory-clause-stands g c hubs opening h = c.serve_at-one.ensures.stands hubs opening (c.loop-at.invariant.stands hubs opening h)
 
 pub returns-in-Budget-clause-run : goal.returns-in-Budget-clause-run
 returns-in-Budget-clause-run g c = region_goes_then g.N.Machine (g.O.Ops.meaning c.args.ops.now) c.args.links.now c.loop-at.moves c.loop-at.pops c.serve_at-one.result.moves c.serve_at-one.result.pops c.outcome-in-Budget.result.moves c.outcome-in-Budget.result.pops c.args.self.now.pieces.items c.loop-at.self.pieces.items c.serve_at-one.new.self.pieces.items (sym c.outcome-in-Budget.ensures.1) (sym c.outcome-in-Budget.ensures.2) c.loop-at.invariant.run c.serve_at-one.ensures.run
 
 pub returns-in-Budget-clause-stands : goal.returns-in-Budget-clause-stands
-returns-in-Budget-clause-stands g c n opening h = c.serve_at-one.ensures.stands n opening (c.loop-at.invariant.stands n opening h)
+returns-in-Budget-clause-stands g c hubs opening h = c.serve_at-one.ensures.stands hubs opening (c.loop-at.invariant.stands hubs opening h)
 
 pub loop-at-preserved : goal.loop-at-preserved
 loop-at-preserved g c =
@@ -26,7 +26,7 @@ loop-at-preserved g c =
       ends = s.ends;
       number = s.number ∙ i.number;
       run = region_goes_then g.N.Machine m c.args.links.now c.loop-at.moves c.loop-at.pops c.serve_at-one.result.moves c.serve_at-one.result.pops _ _ c.args.self.now.pieces.items c.loop-at.self.pieces.items c.serve_at-one.new.self.pieces.items refl refl i.run s.run;
-      stands = λ n opening h. s.stands n opening (i.stands n opening h);
+      stands = λ hubs opening h. s.stands hubs opening (i.stands hubs opening h);
       most = omega (arith, before, most);
       count = i.count ∙ sym s.count;
       rests = rests_more g.N.Machine m c.loop-at.at c.loop-at.self.pieces.items c.serve_at-one.new.self.pieces.items (s.idle c.in-Idle.is) i.rests;

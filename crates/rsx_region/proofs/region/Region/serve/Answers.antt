@@ -6,13 +6,13 @@ pub returns-in-NoMemory-clause-run : goal.returns-in-NoMemory-clause-run
 returns-in-NoMemory-clause-run g c = region_goes_then g.N.Machine (g.O.Ops.meaning c.args.ops.now) c.args.links.now c.loop-moves.moves c.loop-moves.pops c.round-round.result.moves c.round-round.result.pops c.outcome.result.moves c.outcome.result.pops c.args.self.now.pieces.items c.loop-moves.self.pieces.items c.round-round.new.self.pieces.items (sym c.outcome.ensures.1) (sym c.outcome.ensures.2) c.loop-moves.invariant.run c.round-round.ensures.run
 
 pub returns-in-NoMemory-clause-stands : goal.returns-in-NoMemory-clause-stands
-returns-in-NoMemory-clause-stands g c n opening h = c.round-round.ensures.stands n opening (c.loop-moves.invariant.stands n opening h)
+returns-in-NoMemory-clause-stands g c hubs opening h = c.round-round.ensures.stands hubs opening (c.loop-moves.invariant.stands hubs opening h)
 
 pub returns-then-is_enough-clause-run : goal.returns-then-is_enough-clause-run
 returns-then-is_enough-clause-run g c = region_goes_then g.N.Machine (g.O.Ops.meaning c.args.ops.now) c.args.links.now c.loop-moves.moves c.loop-moves.pops c.round-round.result.moves c.round-round.result.pops c.outcome-then-is_enough.result.moves c.outcome-then-is_enough.result.pops c.args.self.now.pieces.items c.loop-moves.self.pieces.items c.round-round.new.self.pieces.items (sym c.outcome-then-is_enough.ensures.1) (sym c.outcome-then-is_enough.ensures.2) c.loop-moves.invariant.run c.round-round.ensures.run
 
 pub returns-then-is_enough-clause-stands : goal.returns-then-is_enough-clause-stands
-returns-then-is_enough-clause-stands g c n opening h = c.round-round.ensures.stands n opening (c.loop-moves.invariant.stands n opening h)
+returns-then-is_enough-clause-stands g c hubs opening h = c.round-round.ensures.stands hubs opening (c.loop-moves.invariant.stands hubs opening h)
 
 pub returns-then-is_enough-clause-idle : goal.returns-then-is_enough-clause-idle
 returns-then-is_enough-clause-idle g c e = c.round-round.ensures.idle c.in-Idle.is
@@ -26,7 +26,7 @@ loop-moves-preserved-else-is_enough g c =
       ends = s.ends;
       number = s.number ∙ i.number;
       run = region_goes_then g.N.Machine (g.O.Ops.meaning c.args.ops.now) c.args.links.now c.loop-moves.moves c.loop-moves.pops c.round-round.result.moves c.round-round.result.pops _ _ c.args.self.now.pieces.items c.loop-moves.self.pieces.items c.round-round.new.self.pieces.items refl refl i.run s.run;
-      stands = λ n opening h. s.stands n opening (i.stands n opening h);
+      stands = λ hubs opening h. s.stands hubs opening (i.stands hubs opening h);
       most = omega (arith, before, most);
     }
 
@@ -39,6 +39,6 @@ loop-moves-preserved g c =
       ends = s.ends;
       number = s.number ∙ i.number;
       run = region_goes_then g.N.Machine (g.O.Ops.meaning c.args.ops.now) c.args.links.now c.loop-moves.moves c.loop-moves.pops c.round-round.result.moves c.round-round.result.pops _ _ c.args.self.now.pieces.items c.loop-moves.self.pieces.items c.round-round.new.self.pieces.items refl refl i.run s.run;
-      stands = λ n opening h. s.stands n opening (i.stands n opening h);
+      stands = λ hubs opening h. s.stands hubs opening (i.stands hubs opening h);
       most = omega (arith, before, most);
     }

@@ -1,4 +1,5 @@
 use Rattle.std.proofs.Common.{◌≡◌, ◌+◌, ◌-◌, ◌≤◌, ℕ, List}
+use Rattle.rsx_types.specs.Stream.{Stream}
 use Rattle.rsx_region.specs.Regions.{ArePiecesOf, RegionGoes, RegionStands}
 use Rattle.rsx_region.specs.declared.piece.Piece.{Piece}
 use Rattle.rsx_region.proofs.region.Region.serve.Given as goal
@@ -9,7 +10,7 @@ invariant-loop-moves g l =
       ends : ArePiecesOf l.links l.self.pieces.items;
       number : l.self.number ≡ l.fn.self.number;
       run : RegionGoes g.N.Machine m l.links l.moves l.pops l.fn.self.pieces.items l.self.pieces.items;
-      stands : (n : ℕ) (opening : List (Piece g.row.N.Denot g.row.T.Denot)) → RegionStands g.N.Machine m n opening l.fn.self.pieces.items → RegionStands g.N.Machine m n opening l.self.pieces.items;
+      stands : (hubs : List (Stream g.row.T.Denot)) (opening : List (Piece g.row.N.Denot g.row.T.Denot)) → RegionStands g.N.Machine m hubs opening l.fn.self.pieces.items → RegionStands g.N.Machine m hubs opening l.self.pieces.items;
       most : l.moves + l.pops ≤ l.budget;
     }
 

@@ -19,7 +19,7 @@ pub returns-clause-idle : goal.returns-clause-idle
 returns-clause-idle g c e = record { is = c.serve.new.self; put = refl; rests = c.serve.ensures.idle e }
 
 pub returns-clause-stands : goal.returns-clause-stands
-returns-clause-stands g c n opening h =
+returns-clause-stands g c hubs opening h =
     let ps = c.args.self.now.pieces.items in
     let was = c.index_mut.result.now in
-    region_stands_one g.N.Machine (g.O.Ops.meaning c.args.ops.now) n opening ps c.args.at was c.serve.new.self (slice_get_read ps (length ps) c.args.at was refl c.requires.there c.index_mut.ensures.value) (λ o k. c.serve.ensures.stands n o k) h
+    region_stands_one g.N.Machine (g.O.Ops.meaning c.args.ops.now) hubs opening ps c.args.at was c.serve.new.self (slice_get_read ps (length ps) c.args.at was refl c.requires.there c.index_mut.ensures.value) (λ o k. c.serve.ensures.stands hubs o k) h

@@ -13,9 +13,9 @@ returns-then-is_empty-clause-yes g c = λ is.
 
 pub returns-then-is_empty-clause-from : goal.returns-then-is_empty-clause-from
 unfolding returns-then-is_empty-clause-yes
-returns-then-is_empty-clause-from g c = λ is m n whole opening h.
+returns-then-is_empty-clause-from g c = λ is m first hubs whole opening h.
     let both = returns-then-is_empty-clause-yes g c is in
-    whole_from g.N.Machine g.N.CrossingNodes m n whole opening c.args.self.now both.0 both.1 h
+    whole_from g.N.Machine g.N.CrossingNodes m first hubs whole opening c.args.self.now both.0 both.1 h
 
 pub returns-then-is_empty-clause-no : goal.returns-then-is_empty-clause-no
 returns-then-is_empty-clause-no g c = λ is edges all.

@@ -13,9 +13,9 @@ returns-then-not-has_room-clause-same g c = (stage_same (stage_of c.args.self.no
 
 pub returns-then-not-has_room-clause-from : goal.returns-then-not-has_room-clause-from
 unfolding returns-then-not-has_room-clause-same
-returns-then-not-has_room-clause-from g c = λ m n whole less w.
+returns-then-not-has_room-clause-from g c = λ m hubs whole less w.
     let same = returns-then-not-has_room-clause-same g c in
-    still_from g.N.Machine g.N.CrossingNodes m n whole c.args.self.now c.has_room.new.self same.0 same.1 w
+    still_from g.N.Machine g.N.CrossingNodes m hubs whole c.args.self.now c.has_room.new.self same.0 same.1 w
 
 pub index_mut-requires : goal.index_mut-requires
 index_mut-requires g c = let l = ap length c.has_room.ensures.pieces in let k = c.has_room.new.self.pieces.ok.0 in let r = c.requires in omega (arith, l, k, r)
@@ -38,14 +38,14 @@ returns-in-Err-clause-same g c =
     (stage_one (stage_of c.args.self.now) _ c.args.above was c.cut.new.self there c.in-Err.ensures.same (ap (λ l. slice_set l c.args.above c.cut.new.self) c.has_room.ensures.pieces) c.has_room.ensures.links, ap names_of c.has_room.ensures.edges)
 
 pub returns-in-Err-clause-from : goal.returns-in-Err-clause-from
-returns-in-Err-clause-from g c = λ m n whole less w.
+returns-in-Err-clause-from g c = λ m hubs whole less w.
     let ps = c.args.self.now.pieces.items in
     let was = c.index_mut.result.now in
     let hr = c.has_room.new.self in
     let size : length hr.pieces.items ≡ length ps = ap length c.has_room.ensures.pieces in
     let within : c.args.above < length hr.pieces.items = let r = c.requires in omega (arith, size, r) in
     let there : slice_get ps c.args.above ≡ Some was = ap (λ l. slice_get l c.args.above) (sym c.has_room.ensures.pieces) ∙ slice_get_read hr.pieces.items (length hr.pieces.items) c.args.above was refl within c.index_mut.ensures.value in
-    still_from g.N.Machine g.N.CrossingNodes m n whole c.args.self.now _ (stage_one (stage_of c.args.self.now) _ c.args.above was c.cut.new.self there c.in-Err.ensures.same (ap (λ l. slice_set l c.args.above c.cut.new.self) c.has_room.ensures.pieces) c.has_room.ensures.links) (ap names_of c.has_room.ensures.edges) w
+    still_from g.N.Machine g.N.CrossingNodes m hubs whole c.args.self.now _ (stage_one (stage_of c.args.self.now) _ c.args.above was c.cut.new.self there c.in-Err.ensures.same (ap (λ l. slice_set l c.args.above c.cut.new.self) c.has_room.ensures.pieces) c.has_room.ensures.links) (ap names_of c.has_room.ensures.edges) w
 
 pub returns-in-Ok-cut-clause-named : goal.returns-in-Ok-cut-clause-named
 returns-in-Ok-cut-clause-named g c =
@@ -102,10 +102,10 @@ returns-in-Ok-cut-clause-hub g c =
 
 pub returns-in-Ok-cut-clause-from : goal.returns-in-Ok-cut-clause-from
 unfolding returns-in-Ok-cut-clause-cut
-returns-in-Ok-cut-clause-from g c = λ m n whole less w.
+returns-in-Ok-cut-clause-from g c = λ m hubs whole less w.
     let ends = c.in-Ok-cut.ensures.ends in
     let count : c.in-Ok.number ≡ length c.args.self.now.links.items = (let e = c.in-Ok.ensures in let l = c.len.ensures in let k = c.args.self.now.links.ok.0 in omega (arith, e, l, k)) in
-    cut_from g.N.Machine g.N.CrossingNodes m n c.args.above c.args.at c.in-Ok.number whole c.args.self.now _ (returns-in-Ok-cut-clause-cut g c) (returns-in-Ok-cut-clause-named g c) count (λ links is h. ends links is h) c.in-Ok-cut.ensures.fresh (λ nothing h. c.in-Ok-cut.ensures.stands m n less nothing h) w
+    cut_from g.N.Machine g.N.CrossingNodes m hubs c.args.above c.args.at c.in-Ok.number whole c.args.self.now _ (returns-in-Ok-cut-clause-cut g c) (returns-in-Ok-cut-clause-named g c) count (λ links is h. ends links is h) c.in-Ok-cut.ensures.fresh (λ nothing h. c.in-Ok-cut.ensures.stands m hubs less nothing h) w
 
 pub returns-in-Err-clause-whole : goal.returns-in-Err-clause-whole
 returns-in-Err-clause-whole g c = λ is.

@@ -29,12 +29,12 @@ returns-clause-idle g c e = record { is = c.serve.new.self; put = refl; rests = 
 
 pub returns-clause-since : goal.returns-clause-since
 unfolding returns-clause-ends
-returns-clause-since g c = λ n whole opening h.
+returns-clause-since g c = λ first hubs whole opening h.
     let ps = c.args.self.now.pieces.items in
     let was = c.index_mut.result.now in
     record {
       run = h.run;
       links = h.links;
       ends = returns-clause-ends g c;
-      stands = region_stands_one g.N.Machine (g.O.Ops.meaning c.args.ops.now) n opening.pieces ps c.args.at was c.serve.new.self (slice_get_read ps (length ps) c.args.at was refl c.requires.there c.index_mut.ensures.value) (λ o k. c.serve.ensures.stands n o k) h.stands;
+      stands = region_stands_one g.N.Machine (g.O.Ops.meaning c.args.ops.now) hubs opening.pieces ps c.args.at was c.serve.new.self (slice_get_read ps (length ps) c.args.at was refl c.requires.there c.index_mut.ensures.value) (λ o k. c.serve.ensures.stands hubs o k) h.stands;
     }

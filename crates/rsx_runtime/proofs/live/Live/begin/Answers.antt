@@ -7,11 +7,11 @@ use Rattle.rsx_region.specs.declared.piece.Piece.{Piece}
 use Rattle.rsx_region.specs.declared.region.Region.{Region}
 use Rattle.rsx_runtime.specs.Beginning.{AreBackOf, IsGateFor, IsReady}
 use Rattle.rsx_runtime.proofs.Begins.{are_ready, as_long, back_in, gates_of, rows_opened, trees_back, when_done, when_refused, written}
-use Rattle.rsx_region.specs.Pieces.{Each}
+use Rattle.rsx_region.specs.Pieces.{Each, none_taken}
 use Rattle.rsx_runtime.proofs.live.Live.begin.Goals as goal
 
 pub returns-in_default-clause-since : goal.returns-in_default-clause-since
-returns-in_default-clause-since g c = λ whole w. since_from g.N.Machine g.N.CrossingNodes (g.O.Ops.meaning c.args.ops) c.args.values whole c.args.trees w
+returns-in_default-clause-since g c = λ whole w. since_from g.N.Machine g.N.CrossingNodes (g.O.Ops.meaning c.args.ops) (none_taken c.args.values) whole c.args.trees w
 
 pub spread-requires-clause-there : goal.spread-requires-clause-there
 spread-requires-clause-there g c = λ k p at.
@@ -25,8 +25,8 @@ returns-then-is_err-clause-since g c = λ whole w.
     let t = c.args.trees in
     let m = g.O.Ops.meaning c.args.ops in
     let same = when_refused c.spread.result _ (sym c.is_err.ensures.value ∙ c.if-is_err.true) c.spread.ensures.err in
-    let s = since_from g.N.Machine g.N.CrossingNodes m c.args.values whole t w in
-    (s.0, still_since g.N.Machine g.N.CrossingNodes m c.args.values whole s.0 t _ (ap (λ (ps : List (Piece _ _)). let x : Stage _ _ = record { pieces = ps; links = t.links.items } in x) same.1) refl s.1)
+    let s = since_from g.N.Machine g.N.CrossingNodes m (none_taken c.args.values) whole t w in
+    (s.0, still_since g.N.Machine g.N.CrossingNodes m (none_taken c.args.values) (none_taken c.args.values) whole s.0 t _ (ap (λ (ps : List (Piece _ _)). let x : Stage _ _ = record { pieces = ps; links = t.links.items } in x) same.1) refl s.1)
 
 pub gate_each-requires-clause-ready : goal.gate_each-requires-clause-ready
 gate_each-requires-clause-ready g c κs within =
