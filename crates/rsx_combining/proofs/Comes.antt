@@ -2,7 +2,7 @@
 use Rattle.std.proofs.lemmas.Bool.{and_parts}
 use Rattle.std.proofs.lemmas.List.{length-set}
 use Rattle.std.proofs.Common.{◌≡◌, ℕ, zero, suc, ◌<◌, Bool, true, false, List, [], ◌∷◌, length, slice_index_or, slice_set, slice_get, Option, Some, None, inl, refl, ap, sym, ◌∙◌, subst, arith, ◌++◌}
-use Rattle.rsx_sources.specs.Prelude.{Note, Picks, Done, Signal, Next, Complete, Error, Meaning, Stream, ended_by, signal_then, CountsIn, CountsStep, Incoming, TakesIn, Records, incoming_of, front_of, IsResidualOf, IsSteppedOut}
+use Rattle.rsx_sources.specs.Prelude.{Note, Picks, Done, Signal, Next, Complete, Error, Meaning, Stream, ended_by, signal_then, CountsIn, CountsStep, Incoming, TakesIn, Records, incoming_of, front_of, IsResidualOf, IsSteppedOut, IsPickDone, IsItemOut}
 use Rattle.rsx_values.specs.Prelude.{written, combine, unless_chosen}
 use Rattle.rsx_queued.specs.declared.input.QueuedInput.{QueuedInput}
 use Rattle.rsx_queued.specs.declared.output.Output.{Output}
@@ -20,7 +20,7 @@ use Rattle.rsx_combining.proofs.Takes.{IsTaken, is_within, read_there, row_is_ne
 -- ---- a signal comes in
 
 -- the state after the input at place i, which was `a`, became `b`
-abbrev with_input : {T : Type 0} → LatestState T → ℕ → QueuedInput T → LatestState T
+abbrev pub with_input : {T : Type 0} → LatestState T → ℕ → QueuedInput T → LatestState T
 with_input n i b = record { inputs = slice_set n.inputs i b; latest = n.latest; output = n.output; choices = n.choices }
 
 signal_at : {T : Type 0} (m : Meaning T) (n : LatestState T) (i : ℕ) (s : Signal T) (a b : QueuedInput T) → IsPut n.inputs i s a b → ((v : Stream T) → still b v ≡ still a (signal_then s v)) → TakesIn (latest_comes_out m) n i s (with_input n i b)
@@ -174,11 +174,17 @@ row_picked {T} m start old noted i asked sent y a b latest out same enabled but 
       row_taken noted noted i made x.0 a b latest out p x.1 (is ∙ ap (λ l. latest_with l i (next_signal a)) (sym but.1)) (put ∙ ap (made_out made) (sym but.2)),
     )
 
+-- input i was picked, and its row went out
+pub record IsRowOut {T : Type 0} (m : Meaning T) (old : LatestState T) (i asked sent : ℕ) (y : T) (new : LatestState T) : Type 0 where
+  pub picked : LatestState T
+  pub pick : IsPickDone (latest_comes_out m) latest_picks latest_recording latest_recorded IsLatestCounted latest_ended latest_done old i asked sent picked
+  pub goes_on : latest_ended picked ≡ false
+  pub out : IsItemOut (latest_comes_out m) (latest_waiting m) latest_popped latest_recorded IsLatestCounted latest_ended latest_done picked y new
+
 -- the row that an input's item gave went out at once
-pub row_gone : {T : Type 0} (m : Meaning T) (old noted new : LatestState T) (i asked sent : ℕ) (y : T) (a : QueuedInput T) → latest_picks old i asked sent ≡ true → IsBut noted old → a ≡ slice_index_or old.inputs i a → Some y ≡ row_given m.row_of old.latest i (next_signal a) →
-    written noted.choices ≡ written old.choices ++ i ∷ [] → new ≡ after_pick noted i None →
-    IsSteppedOut (latest_comes_out m) (latest_waiting m) latest_picks (λ n b s. false) (λ n b s k. ⊥) latest_popped latest_recording latest_recorded IsLatestCounted latest_ended latest_done old asked sent (Some y) new
-row_gone {T} m old noted new i asked sent y a enabled but was row notes after =
+pub row_out : {T : Type 0} (m : Meaning T) (old noted new : LatestState T) (i asked sent : ℕ) (y : T) (a : QueuedInput T) → latest_picks old i asked sent ≡ true → IsBut noted old → a ≡ slice_index_or old.inputs i a → Some y ≡ row_given m.row_of old.latest i (next_signal a) →
+    written noted.choices ≡ written old.choices ++ i ∷ [] → new ≡ after_pick noted i None → IsRowOut m old i asked sent y new
+row_out {T} m old noted new i asked sent y a enabled but was row notes after =
     let parts = and_parts (is_empty old.output) (may_pick (next_signal_at (slice_get old.inputs i)) (gives_row old.latest i) asked sent) enabled in
     let empty : noted.output ≡ Empty = but.2 ∙ empty_is old.output parts.0 in
     let s = some_next (next_signal_at (slice_get old.inputs i)) (gives_row old.latest i) asked sent parts.1 in
@@ -187,27 +193,31 @@ row_gone {T} m old noted new i asked sent y a enabled but was row notes after =
     let mid : LatestState T = after_signal noted i (Some y) (Some (Next x.0)) in
     let left : LatestState T = after_signal noted i None (Some (Next x.0)) in
     let p : IsPicked m old noted mid i asked sent (Some y) = record { enabled = enabled; but = but; a = a; was = was; row = row; after = ap (after_signal noted i (Some y)) (sym next) } in
-    let P : LatestState T → Type 0 = λ n. IsSteppedOut (latest_comes_out m) (latest_waiting m) latest_picks (λ n b s. false) (λ n b s k. ⊥) latest_popped latest_recording latest_recorded IsLatestCounted latest_ended latest_done old asked sent (Some y) n in
-    subst P (sym (after ∙ ap (after_signal noted i None) next)) (
-      mid,
-      inl (
-        i,
-        record {
-          enabled = enabled;
-          value = pick_value m old noted mid i asked sent (Some y) p;
-          notes = ap Picks notes;
-          composes = picks_compose (written old.choices) (i ∷ []);
-          counts = pick_steps m old noted mid i asked sent (Some y) p;
-        },
-      ),
-      record {
+    let P : LatestState T → Type 0 = λ n. IsRowOut m old i asked sent y n in
+    subst P (sym (after ∙ ap (after_signal noted i None) next)) record {
+      picked = mid;
+      pick = record {
+        enabled = enabled;
+        value = pick_value m old noted mid i asked sent (Some y) p;
+        notes = ap Picks notes;
+        composes = picks_compose (written old.choices) (i ∷ []);
+        counts = pick_steps m old noted mid i asked sent (Some y) p;
+      };
+      goes_on = refl;
+      out = record {
         waited = refl;
         popped_out = ((refl, empty), refl, refl, refl);
         value = λ inc further. item_leaves (Waiting (Next y)) noted.output y (λ cs. combine m.row_of left.latest cs (inputs_left 0 left.inputs (inc.first ∷ inc.others))) unless_chosen refl empty further;
         notes = refl;
         counts = (ap has_ending empty, (λ taken n h. record { goes_on = ap is_over empty; some_left = h.some_left; few = h.few; counts = h.counts }), λ j d. d);
-      },
-    )
+      };
+    }
+
+pub row_gone : {T : Type 0} (m : Meaning T) (old noted new : LatestState T) (i asked sent : ℕ) (y : T) (a : QueuedInput T) → latest_picks old i asked sent ≡ true → IsBut noted old → a ≡ slice_index_or old.inputs i a → Some y ≡ row_given m.row_of old.latest i (next_signal a) →
+    written noted.choices ≡ written old.choices ++ i ∷ [] → new ≡ after_pick noted i None →
+    IsSteppedOut (latest_comes_out m) (latest_waiting m) latest_picks (λ n b s. false) (λ n b s k. ⊥) latest_popped latest_recording latest_recorded IsLatestCounted latest_ended latest_done old asked sent (Some y) new
+row_gone m old noted new i asked sent y a enabled but was row notes after =
+    let r = row_out m old noted new i asked sent y a enabled but was row notes after in (r.picked, inl (i, r.pick), r.out)
 
 -- ---- the rest
 
@@ -224,7 +234,7 @@ residual_of {T} m start old inboxes vs o rest v same is some gives =
 
 -- ---- what the code puts together
 
-state_is : {T : Type 0} (n m : LatestState T) → n.inputs ≡ m.inputs → n.latest ≡ m.latest → n.output ≡ m.output → n.choices ≡ m.choices → n ≡ m
+pub state_is : {T : Type 0} (n m : LatestState T) → n.inputs ≡ m.inputs → n.latest ≡ m.latest → n.output ≡ m.output → n.choices ≡ m.choices → n ≡ m
 state_is {T} n m a b c d i = record { inputs = a i; latest = b i; output = c i; choices = d i }
 
 -- a signal that is put back

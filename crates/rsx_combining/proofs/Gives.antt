@@ -75,7 +75,7 @@ latest_of_all : {A : Type 0} (xs : List A) → all_latest (map Some xs) ≡ Some
 latest_of_all [] = refl
 latest_of_all (x ∷ xs) = ap (option_map (λ ys. x ∷ ys)) (latest_of_all xs)
 
-set_all : {A : Type 0} (xs : List A) (i : ℕ) (x : A) → map Some (slice_set xs i x) ≡ slice_set (map Some xs) i (Some x)
+pub set_all : {A : Type 0} (xs : List A) (i : ℕ) (x : A) → map Some (slice_set xs i x) ≡ slice_set (map Some xs) i (Some x)
 set_all [] i x = refl
 set_all (y ∷ xs) zero x = refl
 set_all (y ∷ xs) (suc i) x = ap (λ l. Some y ∷ l) (set_all xs i x)
@@ -112,12 +112,20 @@ nothing (x ∷ all) n l none = absurd (zero_not n (length all) l none)
 pub before_seen : {A : Type 0} (before now : List (Option A)) (all : List A) (n : ℕ) → seen before all ≡ now → n ≡ length all → nat_eq n 0 ≡ true → before ≡ now
 before_seen before now all n is l none = sym (append-nil before) ∙ ap (seen before) (sym (nothing all n l none)) ∙ is
 
+pub first_seen : {A : Type 0} (before now : List (Option A)) (all : List A) (n : ℕ) → seen before all ≡ now → n ≡ length all → nat_eq n 0 ≡ true → (before ≡ now) × (all ≡ [])
+first_seen before now all n is l none = (before_seen before now all n is l none, nothing all n l none)
+
 -- a place is there, where its item gives a row
 pub gives_within : {A : Type 0} (now : List (Option A)) (all : List A) (n i : ℕ) → map Some all ≡ now → n ≡ length all → gives_row now i ≡ true → i < n
 gives_within now all n i is l gives = within (ap (nat_lt i) l ∙ sym (gives_all all i) ∙ ap (λ z. gives_row z i) is ∙ gives)
   where
     within : nat_lt i n ≡ true → i < n
     within t = grind (arith, nat_tests)
+
+pub kept_within : {A : Type 0} (now : List (Option A)) (all : List A) (n i : ℕ) → map Some all ≡ now → n ≡ length all → i < length now → i < n
+kept_within now all n i is l lt =
+    let same = sym (ap length is) ∙ length-map all Some in
+    omega (arith, same, l, lt)
 
 -- else the items stand in the first list
 pub stands_before : {A : Type 0} (before now : List (Option A)) (all : List A) (i : ℕ) → seen before all ≡ now → before ≡ [] ⊎ all ≡ [] → i < length now → gives_row now i ≡ false → (before ≡ now) × (all ≡ [])

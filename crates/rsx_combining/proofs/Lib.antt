@@ -6,6 +6,8 @@ pub mod Filled
 pub mod Fresh
 pub mod Gives
 pub mod Heads
+pub mod InPlace
+pub mod RowsThrough
 pub mod Steps
 pub mod Takes
 pub mod Zips

@@ -2,5 +2,6 @@
 pub mod Inputs
 pub mod Latest
 pub mod LatestLaws
+pub mod LatestRows
 pub mod Zip
 pub mod ZipLaws

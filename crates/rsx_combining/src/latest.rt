@@ -3,8 +3,10 @@
 ghost use Rattle.std.specs.Prelude.{◌≡◌, option_map};
 ghost use Rattle.rsx_sources.specs.Machine.{front_of};
 ghost use Rattle.rsx_queued.specs.Output.{first_output};
+ghost use Rattle.rsx_combining.specs.Latest.{LatestState};
 
 use crate::latest_items::{ItemRows, LatestItems};
+use crate::latest_rows::LatestRows;
 use rsx_prefetch::LARGEST;
 use rsx_queued::{
     InFront, Output, QueuedInput, ToPick, are_gone, credits_at, first_output, front_at, front_of,
@@ -40,7 +42,7 @@ impl<T> Model for CombineLatestNode<T> {
 }
 
 impl<T: Drop> CombineLatestNode<T> {
-    ghost use Rattle.std.specs.Prelude.{◌≡◌, ◌≤◌, ◌<◌, ◌||◌, true, false, [], None, length, slice_get, IfOk};
+    ghost use Rattle.std.specs.Prelude.{◌≡◌, ◌≤◌, ◌<◌, ◌||◌, true, false, [], List, None, Some, length, slice_get, IfOk, IfSome};
     ghost use Rattle.rsx_values.specs.Latest.{is_itemless};
     ghost use Rattle.std.proofs.Math.ListN.{replicate};
     ghost use Rattle.rsx_prefetch.specs.declared.TheConstants.{LARGEST};
@@ -48,6 +50,7 @@ impl<T: Drop> CombineLatestNode<T> {
     ghost use Rattle.rsx_queued.specs.Inputs.{are_gone, next_signal_at};
     ghost use Rattle.rsx_queued.specs.Output.{is_empty};
     ghost use Rattle.rsx_combining.specs.Latest.{GivesLatest, IsLatestCounted, after_pick, gives_row, latest_queued, row_is_next};
+    ghost use Rattle.rsx_combining.specs.LatestRows.{after_rows, is_zero, last_item, rows_counted, rows_through};
 
     /// The combineLatest of so many inputs, each with a queue for so many items, 1 to [`LARGEST`]. That of no inputs completes
     /// at once.
@@ -96,6 +99,41 @@ impl<T: Drop> CombineLatestNode<T> {
         self.choices.runs()
     }
 
+    /// Whether so many items of this input go through one after the other, each as a row: nothing waits, each of them gives a
+    /// row, and the choices of them are more of the last run.
+    pub fn rows_through(&self, input: u64, items: u64) -> bool
+        ensures { result ≡ rows_through self.now input items }
+    {
+        self.output.is_empty()
+            && takes_at(self.inputs.as_slice(), input, Front::Item)
+            && self.none_waits(input)
+            && self.latest.gives_row(input)
+            && items <= self.choices.room_of_last(input)
+    }
+
+    /// Counts so many items of the input, of which this is the last, as taken in and picked, and their rows as sent: what is
+    /// left of the node where each came in and its row went out, one after the other. It takes no memory.
+    pub fn count_rows(&mut self, input: u64, items: u64, last: T)
+        requires { rows_through self.old input items ≡ true }
+        ensures state { self.new ≡ rows_counted self.old input items last }
+        ensures rows { (xs : List T) → length xs ≡ items → last_item xs ≡ Some last → self.new ≡ after_rows self.old input xs }
+    {
+        let at = input as usize;
+        self.inputs[at].queue.count_passed(items);
+        self.latest.keep(at, last);
+        self.choices.push_times(input, items);
+    }
+
+    /// Whether this input is there and no signal waits there.
+    fn none_waits(&self, input: u64) -> bool
+        ensures { result ≡ is_zero (latest_queued self.now input) }
+    {
+        match self.queued_at(input) {
+            Some(waiting) => waiting == 0,
+            None => false,
+        }
+    }
+
     /// Whether the completion of this input ends the node: the input had no item, or no other input is left.
     fn completes(&self, at: usize) -> bool
         ensures { result ≡ is_itemless (slice_get self.now.latest at) || are_gone self.now.inputs }
@@ -132,6 +170,50 @@ impl<T: Drop> CombineLatestNode<T> {
             Some(Signal::Error(cause)) => self.output.put(Signal::Error(cause)),
             None => {}
         }
+    }
+}
+
+/// Items of one input of a combineLatest as rows, many at once.
+pub trait PassingRows<T: Drop> {
+    /// What contracts see of the node.
+    ghost node: { Self → LatestState T };
+
+    ghost use Rattle.std.specs.Prelude.{◌≡◌, Some, true, length, IfSome};
+    ghost use Rattle.rsx_combining.specs.LatestRows.{AreRows, last_item, rows_through};
+
+    /// Puts into the place of each of these items of the input the row that it gives, one after the other, and answers the last
+    /// item. The node stays as it is; [`CombineLatestNode::count_rows`] lets them go through.
+    ///
+    /// None where there is no item, where they don't go through ([`CombineLatestNode::rows_through`]), where an input has had
+    /// no item yet, and where memory was refused. What `items` holds then is open.
+    fn try_rows<O: Ops<Item = T>>(
+        &self,
+        alloc: Global,
+        ops: &O,
+        input: u64,
+        items: &mut Vec<T>,
+    ) -> Option<T>
+        ensures through { IfSome result (λ last. rows_through (node self.now) input (length items.old.items) ≡ true) }
+        ensures rows { IfSome result (λ last.
+            AreRows (O.meaning ops.now).row_of (node self.now).latest input items.old.items items.new.items) }
+        ensures last { IfSome result (λ last. last_item items.old.items ≡ Some last) };
+}
+
+impl<T: Drop> PassingRows<T> for CombineLatestNode<T> {
+    ghost node = { λ n. n };
+
+    fn try_rows<O: Ops<Item = T>>(
+        &self,
+        alloc: Global,
+        ops: &O,
+        input: u64,
+        items: &mut Vec<T>,
+    ) -> Option<T> {
+        if items.is_empty() || !self.rows_through(input, items.len() as u64) {
+            return None;
+        }
+        let mut latest = self.latest.all_copies(alloc, ops)?;
+        latest.put_rows(alloc, ops, input as usize, items)
     }
 }
 

@@ -1,6 +1,6 @@
 //! The latest item of each input of a combineLatest.
 
-ghost use Rattle.std.specs.Prelude.{◌≡◌, ◌<◌, ◌++◌, ◌∷◌, [], Some, List, Option, true, not, length, slice_get, slice_set, option_map, IfOk, IfErr, OnOk, OnErr};
+ghost use Rattle.std.specs.Prelude.{◌≡◌, ◌<◌, ◌++◌, ◌∷◌, [], Some, List, Option, true, not, length, slice_get, slice_set, map, option_map, IfSome, IfOk, IfErr, OnOk, OnErr};
 ghost use Rattle.rsx_queued.specs.Input.{next_signal, without};
 ghost use Rattle.rsx_values.specs.Latest.{all_latest, is_itemless};
 ghost use Rattle.rsx_values.specs.Record.{written};
@@ -114,6 +114,18 @@ impl<T: Drop> LatestItems<T> {
         gives_row(self.before.as_slice(), input)
     }
 
+    /// Keeps this item as the latest of this input.
+    pub fn keep(&mut self, at: usize, latest: T)
+        requires { at < length self.old }
+        ensures { self.new ≡ slice_set self.old at (Some latest) }
+    {
+        if !self.all.is_empty() {
+            self.all[at] = latest;
+            return;
+        }
+        self.before[at] = Some(latest);
+    }
+
     /// Keeps an item of this input that gives no row.
     pub fn put(&mut self, at: usize, item: T)
         requires there { at < length self.old }
@@ -179,6 +191,10 @@ pub trait ItemRows<T: Drop> {
     /// [`NoMemory`] where a growth was refused, in `Ops::copy` too.
     fn copies<O: Ops<Item = T>>(&self, alloc: Global, ops: &O) -> Result<Vec<Option<T>>, NoMemory>
         ensures { IfOk result (λ v. v.items ≡ latest self.now) };
+
+    /// Copies of them side by side. None where an input has had no item yet, or where a growth was refused, in `Ops::copy` too.
+    fn all_copies<O: Ops<Item = T>>(&self, alloc: Global, ops: &O) -> Option<Vec<T>>
+        ensures { IfSome result (λ v. map Some v.items ≡ latest self.now) };
 }
 
 impl<T: Drop> ItemRows<T> for LatestItems<T> {
@@ -234,5 +250,18 @@ impl<T: Drop> ItemRows<T> for LatestItems<T> {
         latest.push_copies(alloc, ops, self.before.as_slice())?;
         latest.push_item_copies(alloc, ops, self.all.as_slice())?;
         Ok(latest)
+    }
+
+    fn all_copies<O: Ops<Item = T>>(&self, alloc: Global, ops: &O) -> Option<Vec<T>> {
+        if !self.before.is_empty() {
+            return None;
+        }
+        let items = self.all.as_slice();
+        let mut copies = Vec::new(alloc);
+        for item in items {
+            let copy = ops.copy(alloc, item).ok()?;
+            copies.push(copy).ok()?;
+        }
+        Some(copies)
     }
 }

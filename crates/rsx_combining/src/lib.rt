@@ -19,9 +19,10 @@ mod copies;
 mod given;
 pub mod latest;
 mod latest_items;
+mod latest_rows;
 mod row;
 mod values;
 pub mod zip;
 
-pub use latest::CombineLatestNode;
+pub use latest::{CombineLatestNode, PassingRows};
 pub use zip::ZipNode;

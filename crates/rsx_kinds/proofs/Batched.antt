@@ -1,10 +1,11 @@
 -- A node of any kind makes the batches that its kind makes.
-use Rattle.std.proofs.Common.{◌≡◌, true, false, None, List, [], ◌∷◌, length, ℕ, Some, inr, refl, ap, sym, ◌∙◌, subst}
+use Rattle.std.proofs.Common.{◌≡◌, ℕ, suc, Bool, true, false, if◌then◌else◌, None, List, [], ◌∷◌, length, Some, inl, inr, refl, ap, sym, ◌∙◌, subst, ◌≤◌, arith}
+use Rattle.std.proofs.lemmas.Bool.{true≢false}
 use Rattle.rsx_rooted.proofs.OneByOne.{passed_in, popped_in}
-use Rattle.rsx_rooted.specs.Items.{ArePassed, ArePopped, IsIn}
+use Rattle.rsx_rooted.specs.Items.{ArePassed, ArePopped, IsIn, IsOutBy}
 use Rattle.rsx_rooted.specs.Machines.{plain_machine, range_machine}
 use Rattle.rsx_rooted.specs.Went.{plain_went, range_went}
-use Rattle.rsx_rooted.specs.declared.batch.After.TheVariants.{Counted}
+use Rattle.rsx_rooted.specs.declared.batch.After.TheVariants.{Counted, Picked, Latest as LatestAfter}
 use Rattle.rsx_rooted.specs.declared.batch.Noted.{Noted}
 use Rattle.rsx_plain.specs.declared.node.PlainNode.{PlainNode}
 use Rattle.rsx_sources.specs.Prelude.{Meaning, Nothing}
@@ -12,6 +13,7 @@ use Rattle.rsx_sources.specs.declared.machine.Machine.{Ghosts as Machine}
 use Rattle.rsx_sources.specs.declared.machine.Passed.TheVariants.{Kept}
 use Rattle.rsx_sources.specs.declared.range.RangeNode.{RangeNode}
 use Rattle.rsx_tree.specs.Fetched.{IsOut}
+use Rattle.rsx_tree.specs.Stepped.{IsStepOf}
 use Rattle.rsx_kinds.specs.Any.{kind_machine}
 use Rattle.rsx_kinds.specs.Went.{any_went, several_went, source_went}
 use Rattle.rsx_kinds.specs.Source.{source_comes_out, source_waiting, source_shown, source_popped, source_counted, source_reads, source_rooms, source_pop_allocates}
@@ -21,16 +23,22 @@ use Rattle.rsx_kinds.specs.declared.source_node.SourceNode.{SourceNode}
 use Rattle.rsx_kinds.specs.declared.source_node.SourceNode.TheVariants.{Items, Range, Hub}
 use Rattle.rsx_kinds.specs.Several.{several_comes_out, several_waiting, several_shown, several_takes, several_picks, several_rows, several_rowed, several_recording, several_recorded, several_ended, several_done, several_counted, several_wanted, several_popped, several_step_allocates}
 use Rattle.rsx_kinds.specs.declared.several_node.SeveralNode.{SeveralNode}
-use Rattle.rsx_kinds.specs.declared.several_node.SeveralNode.TheVariants.{Concat}
+use Rattle.rsx_kinds.specs.declared.several_node.SeveralNode.TheVariants.{Concat, Merge, Latest}
 use Rattle.rsx_merging.specs.Concat.{after_all_passed, after_passed, concat_takes}
+use Rattle.rsx_combining.proofs.RowsThrough.{counted_rows, goes_on_through, goes_through_latest, fewer_through}
+use Rattle.rsx_combining.specs.Latest.{LatestState}
+use Rattle.rsx_combining.specs.LatestRows.{AreRows, after_row, after_rows, last_item, rows_counted, rows_through}
+use Rattle.rsx_merging.specs.Merge.{after_all_merged, after_merged, merges_through}
 use Rattle.rsx_merging.specs.declared.concat_node.ConcatNode.{ConcatNode}
+use Rattle.rsx_merging.specs.declared.merge_node.MergeNode.{MergeNode}
 use Rattle.rsx_merging.specs.PublishOn.{publish_takes}
 use Rattle.rsx_merging.specs.declared.publish_on_node.PublishOnNode.{PublishOnNode}
 use Rattle.rsx_merging.proofs.Passes.{goes_through}
 use Rattle.rsx_merging.proofs.Through.{goes_through_concat}
 use Rattle.rsx_sources.specs.declared.machine.Front.TheVariants.{Item}
-use Rattle.rsx_kinds.proofs.Dispatch.{item_out_publish_on, passed_plain, passed_publish_on, passed_several}
-use Rattle.rsx_kinds.proofs.SeveralDispatch.{item_out_concat, passed_concat}
+use Rattle.rsx_kinds.proofs.Dispatch.{item_out_publish_on, passed_plain, passed_publish_on, passed_several, stepped_several}
+use Rattle.rsx_merging.proofs.Merged.{goes_through_merge, merges_others}
+use Rattle.rsx_kinds.proofs.SeveralDispatch.{item_out_concat, item_out_latest, item_out_merge, passed_concat, passed_latest, passed_merge, stepped_latest, stepped_merge}
 
 -- the meaning of sources
 abbrev pub source_machine : {T : Type 0} → Machine (SourceNode T) T
@@ -69,13 +77,29 @@ in_plain m i s x t h = (passed_plain m s t i x Kept h.0, h.1)
 out_plain : {T : Type 0} (m : Meaning T) (s : PlainNode T) (x : T) (t : PlainNode T) → IsOut plain_machine m s x t → IsOut kind_machine m (Plain s) x (Plain t)
 out_plain m s x t h = (record { waited = h.0.waited; popped_out = h.0.popped_out; value = h.0.value; notes = h.0.notes; counts = h.0.counts }, h.1)
 
-pub popped_range : {T : Type 0} (m : Meaning T) (n : RangeNode T) (noted : Noted T) (xs : List T) → ((new : RangeNode T) → range_went n noted.after new → ArePopped (IsOut range_machine m) n xs new) → (new : SourceNode T) → source_went (Range n) noted new → ArePopped (IsOut source_machine m) (Range n) xs new
-popped_range m n noted xs h (Range k) w = popped_in Range (IsOut range_machine m) (IsOut source_machine m) (out_range m) xs n k (h k w)
+no_step : {T : Type 0} (m : Meaning T) (s : RangeNode T) (asked sent : ℕ) (t : RangeNode T) → IsStepOf range_machine m s asked sent t → ⊥
+no_step m s asked sent t (inl p) = true≢false (sym p.1.can)
+no_step m s asked sent t (inr r) = true≢false (sym r.can)
+
+no_source_step : {T : Type 0} (m : Meaning T) (s : SourceNode T) (asked sent : ℕ) (t : SourceNode T) → IsStepOf source_machine m s asked sent t → ⊥
+no_source_step m s asked sent t (inl p) = true≢false (sym p.1.can)
+no_source_step m s asked sent t (inr r) = true≢false (sym r.can)
+
+out_range_by : {T : Type 0} (m : Meaning T) (by : Bool) (s : RangeNode T) (x : T) (t : RangeNode T) → IsOutBy range_machine m by s x t → IsOutBy source_machine m by (Range s) x (Range t)
+out_range_by m false s x t h = out_range m s x t h
+out_range_by m true s x t h = λ asked sent less. let o = h asked sent less in absurd (no_step m s asked sent o.0 o.1)
+
+out_source_by : {T : Type 0} (m : Meaning T) (by : Bool) (s : SourceNode T) (x : T) (t : SourceNode T) → IsOutBy source_machine m by s x t → IsOutBy kind_machine m by (Source s) x (Source t)
+out_source_by m false s x t h = out_source m s x t h
+out_source_by m true s x t h = λ asked sent less. let o = h asked sent less in absurd (no_source_step m s asked sent o.0 o.1)
+
+pub popped_range : {T : Type 0} (m : Meaning T) (n : RangeNode T) (noted : Noted T) (xs : List T) → ((new : RangeNode T) → range_went n noted.after new → ArePopped (IsOutBy range_machine m noted.by_step) n xs new) → (new : SourceNode T) → source_went (Range n) noted new → ArePopped (IsOutBy source_machine m noted.by_step) (Range n) xs new
+popped_range m n noted xs h (Range k) w = popped_in Range (IsOutBy range_machine m noted.by_step) (IsOutBy source_machine m noted.by_step) (out_range_by m noted.by_step) xs n k (h k w)
 popped_range m n noted xs h (Items k) w = absurd w
 popped_range m n noted xs h (Hub k) w = absurd w
 
-pub popped_source : {T : Type 0} (m : Meaning T) (n : SourceNode T) (noted : Noted T) (xs : List T) → ((new : SourceNode T) → source_went n noted new → ArePopped (IsOut source_machine m) n xs new) → (new : AnyNode T) → any_went (Source n) noted new → ArePopped (IsOut kind_machine m) (Source n) xs new
-popped_source m n noted xs h (Source k) w = popped_in Source (IsOut source_machine m) (IsOut kind_machine m) (out_source m) xs n k (h k w)
+pub popped_source : {T : Type 0} (m : Meaning T) (n : SourceNode T) (noted : Noted T) (xs : List T) → ((new : SourceNode T) → source_went n noted new → ArePopped (IsOutBy source_machine m noted.by_step) n xs new) → (new : AnyNode T) → any_went (Source n) noted new → ArePopped (IsOutBy kind_machine m noted.by_step) (Source n) xs new
+popped_source m n noted xs h (Source k) w = popped_in Source (IsOutBy source_machine m noted.by_step) (IsOutBy kind_machine m noted.by_step) (out_source_by m noted.by_step) xs n k (h k w)
 popped_source m n noted xs h (Plain k) w = absurd w
 popped_source m n noted xs h (Several k) w = absurd w
 popped_source m n noted xs h (PublishOn k) w = absurd w
@@ -85,8 +109,16 @@ popped_source m n noted xs h (FlatMap k) w = absurd w
 popped_source m n noted xs h (FlatMapDelay k) w = absurd w
 popped_source m n noted xs h (GroupBy k) w = absurd w
 
-pub passed_plain_all : {T : Type 0} (m : Meaning T) (i : ℕ) (n : PlainNode T) (noted : Noted T) (xs ys : List T) → ((new : PlainNode T) → plain_went n noted.after new → ArePassed (IsIn plain_machine m i) (IsOut plain_machine m) n xs ys new) → (new : AnyNode T) → any_went (Plain n) noted new → ArePassed (IsIn kind_machine m i) (IsOut kind_machine m) (Plain n) xs ys new
-passed_plain_all m i n noted xs ys h (Plain k) w = passed_in Plain (IsIn plain_machine m i) (IsOut plain_machine m) (IsIn kind_machine m i) (IsOut kind_machine m) (in_plain m i) (out_plain m) xs ys n k (h k w)
+no_plain_step : {T : Type 0} (m : Meaning T) (s : PlainNode T) (asked sent : ℕ) (t : PlainNode T) → IsStepOf plain_machine m s asked sent t → ⊥
+no_plain_step m s asked sent t (inl p) = true≢false (sym p.1.can)
+no_plain_step m s asked sent t (inr r) = true≢false (sym r.can)
+
+out_plain_by : {T : Type 0} (m : Meaning T) (by : Bool) (s : PlainNode T) (x : T) (t : PlainNode T) → IsOutBy plain_machine m by s x t → IsOutBy kind_machine m by (Plain s) x (Plain t)
+out_plain_by m false s x t h = out_plain m s x t h
+out_plain_by m true s x t h = λ asked sent less. let o = h asked sent less in absurd (no_plain_step m s asked sent o.0 o.1)
+
+pub passed_plain_all : {T : Type 0} (m : Meaning T) (i : ℕ) (n : PlainNode T) (noted : Noted T) (xs ys : List T) → ((new : PlainNode T) → plain_went n noted.after new → ArePassed (IsIn plain_machine m i) (IsOutBy plain_machine m noted.by_step) n xs ys new) → (new : AnyNode T) → any_went (Plain n) noted new → ArePassed (IsIn kind_machine m i) (IsOutBy kind_machine m noted.by_step) (Plain n) xs ys new
+passed_plain_all m i n noted xs ys h (Plain k) w = passed_in Plain (IsIn plain_machine m i) (IsOutBy plain_machine m noted.by_step) (IsIn kind_machine m i) (IsOutBy kind_machine m noted.by_step) (in_plain m i) (out_plain_by m noted.by_step) xs ys n k (h k w)
 passed_plain_all m i n noted xs ys h (Source k) w = absurd w
 passed_plain_all m i n noted xs ys h (Several k) w = absurd w
 passed_plain_all m i n noted xs ys h (PublishOn k) w = absurd w
@@ -133,12 +165,78 @@ through_concat m i (x ∷ xs) n takes =
       inr (x, xs, Concat (after_passed n), refl, (item_out_concat m h.0 (after_passed n) (Some x) h.2, (refl, (refl, λ a. (refl, refl, refl)))), through_concat m i xs (after_passed n) takes),
     )
 
-pub passed_concat_all : {T : Type 0} (m : Meaning T) (i : ℕ) (old new : SeveralNode T) (n : ConcatNode T) (took : ℕ) (xs : List T) → old ≡ Concat n → concat_takes n i Item ≡ true → took ≡ length xs → several_went old (record { took = took; after = Counted }) new →
+pub passed_concat_all : {T : Type 0} (m : Meaning T) (i : ℕ) (old new : SeveralNode T) (n : ConcatNode T) (took : ℕ) (xs : List T) → old ≡ Concat n → concat_takes n i Item ≡ true → took ≡ length xs → several_went old (record { took = took; steps = 0; by_step = false; after = Counted }) new →
     ArePassed (IsIn several_machine m i) (IsOut several_machine m) old xs xs new
 passed_concat_all {T} m i old new n took xs is takes all w =
-    let P : SeveralNode T → Type 0 = λ s. several_went s (record { took = took; after = Counted }) new → ArePassed (IsIn several_machine m i) (IsOut several_machine m) s xs xs new in
+    let P : SeveralNode T → Type 0 = λ s. several_went s (record { took = took; steps = 0; by_step = false; after = Counted }) new → ArePassed (IsIn several_machine m i) (IsOut several_machine m) s xs xs new in
     let Q : SeveralNode T → Type 0 = λ s. ArePassed (IsIn several_machine m i) (IsOut several_machine m) (Concat n) xs xs s in
     subst P (sym is) (λ gone. subst Q (sym (gone ∙ ap (λ k. Concat (after_all_passed n k)) all)) (through_concat m i xs n takes)) w
+
+-- items go through a merge, each picked as it comes
+picks_merge : {T : Type 0} (m : Meaning T) (i : ℕ) (xs : List T) (n : MergeNode T) → merges_through n i (length xs) ≡ true → ArePassed (IsIn several_machine m i) (IsOutBy several_machine m true) (Merge n) xs xs (Merge (after_all_merged n i (length xs)))
+picks_merge m i [] n can = (refl, refl)
+picks_merge m i (x ∷ xs) n can =
+    let h = goes_through_merge m n i (length xs) x can in (
+      Merge h.0,
+      (passed_merge m n h.0 i x Kept h.1, (refl, (refl, λ a. (refl, refl, refl)))),
+      inr (
+        x,
+        xs,
+        Merge (after_merged n i),
+        refl,
+        (λ asked sent less.
+            let o = h.2 asked sent less in
+            let p = o.1 in (
+              Merge o.0,
+              inl (i, record { can = p.enabled; value = p.value; recorded = p.notes; composes = p.composes; counts = stepped_merge h.0 o.0 p.counts; alike = (refl, (refl, λ a. (refl, refl, refl))) }),
+              o.2,
+              (item_out_merge m o.0 (after_merged n i) (Some x) o.3, (refl, (refl, λ a. (refl, refl, refl)))),
+            )),
+        picks_merge m i xs (after_merged n i) (merges_others n i (length xs) can),
+      ),
+    )
+
+pub picked_merge_all : {T : Type 0} (m : Meaning T) (i : ℕ) (old new : SeveralNode T) (n : MergeNode T) (took steps : ℕ) (by : Bool) (xs : List T) → old ≡ Merge n → merges_through n i took ≡ true → took ≡ length xs → several_went old (record { took = took; steps = steps; by_step = by; after = Picked i }) new →
+    ArePassed (IsIn several_machine m i) (IsOutBy several_machine m true) old xs xs new
+picked_merge_all {T} m i old new n took steps by xs is can all w =
+    let P : SeveralNode T → Type 0 = λ s. several_went s (record { took = took; steps = steps; by_step = by; after = Picked i }) new → ArePassed (IsIn several_machine m i) (IsOutBy several_machine m true) s xs xs new in
+    let Q : SeveralNode T → Type 0 = λ s. ArePassed (IsIn several_machine m i) (IsOutBy several_machine m true) (Merge n) xs xs s in
+    let here : merges_through n i (length xs) ≡ true = sym (ap (merges_through n i) all) ∙ can in
+    subst P (sym is) (λ gone. subst Q (sym (gone ∙ ap (λ b. Merge (if b then after_all_merged n i took else n)) can ∙ ap (λ k. Merge (after_all_merged n i k)) all)) (picks_merge m i xs n here)) w
+
+-- items go through a combineLatest as rows, each picked as it comes
+rows_latest : {T : Type 0} (m : Meaning T) (i : ℕ) (xs ys : List T) (n : LatestState T) → rows_through n i (length xs) ≡ true → AreRows m.row_of n.latest i xs ys → ArePassed (IsIn several_machine m i) (IsOutBy several_machine m true) (Latest n) xs ys (Latest (after_rows n i xs))
+rows_latest m i [] [] n can rows = (refl, refl)
+rows_latest m i [] (y ∷ ys) n can rows = absurd rows
+rows_latest m i (x ∷ xs) [] n can rows = absurd rows
+rows_latest m i (x ∷ xs) (y ∷ ys) n can rows =
+    let h = goes_through_latest m n i x y (fewer_through n i (suc (length xs)) 1 (omega arith) can) rows.0 in (
+      Latest h.0,
+      (passed_latest m n h.0 i x Kept h.1, (refl, (refl, λ a. (refl, refl, refl)))),
+      inr (
+        y,
+        ys,
+        Latest (after_row n i x),
+        refl,
+        (λ asked sent less.
+            let o = h.2 asked sent less in
+            let p = o.1 in (
+              Latest o.0,
+              inl (i, record { can = p.enabled; value = p.value; recorded = p.notes; composes = p.composes; counts = stepped_latest h.0 o.0 p.counts; alike = (refl, (refl, λ a. (refl, refl, refl))) }),
+              o.2,
+              (item_out_latest m o.0 (after_row n i x) (Some y) o.3, (refl, (refl, λ a. (refl, refl, refl)))),
+            )),
+        rows_latest m i xs ys (after_row n i x) (goes_on_through n i (length xs) x can) rows.1,
+      ),
+    )
+
+pub picked_latest_all : {T : Type 0} (m : Meaning T) (i : ℕ) (old new : SeveralNode T) (n : LatestState T) (took steps : ℕ) (by : Bool) (last : T) (xs ys : List T) → old ≡ Latest n → rows_through n i (length xs) ≡ true → took ≡ length xs → AreRows m.row_of n.latest i xs ys → last_item xs ≡ Some last →
+    several_went old (record { took = took; steps = steps; by_step = by; after = LatestAfter i last }) new → ArePassed (IsIn several_machine m i) (IsOutBy several_machine m true) old xs ys new
+picked_latest_all {T} m i old new n took steps by last xs ys is can all rows end w =
+    let P : SeveralNode T → Type 0 = λ s. several_went s (record { took = took; steps = steps; by_step = by; after = LatestAfter i last }) new → ArePassed (IsIn several_machine m i) (IsOutBy several_machine m true) s xs ys new in
+    let Q : SeveralNode T → Type 0 = λ s. ArePassed (IsIn several_machine m i) (IsOutBy several_machine m true) (Latest n) xs ys s in
+    let here : rows_through n i took ≡ true = ap (rows_through n i) all ∙ can in
+    subst P (sym is) (λ gone. subst Q (sym (gone ∙ ap (λ b. Latest (if b then rows_counted n i took last else n)) here ∙ ap Latest (counted_rows n i took xs last (sym all) end))) (rows_latest m i xs ys n can rows)) w
 
 in_several : {T : Type 0} (m : Meaning T) (i : ℕ) (s : SeveralNode T) (x : T) (t : SeveralNode T) → IsIn several_machine m i s x t → IsIn kind_machine m i (Several s) x (Several t)
 in_several m i s x t h = (passed_several m s t i x Kept h.0, h.1)
@@ -146,8 +244,20 @@ in_several m i s x t h = (passed_several m s t i x Kept h.0, h.1)
 out_several : {T : Type 0} (m : Meaning T) (s : SeveralNode T) (x : T) (t : SeveralNode T) → IsOut several_machine m s x t → IsOut kind_machine m (Several s) x (Several t)
 out_several m s x t h = (record { waited = h.0.waited; popped_out = h.0.popped_out; value = h.0.value; notes = h.0.notes; counts = h.0.counts }, h.1)
 
-pub passed_several_all : {T : Type 0} (m : Meaning T) (i : ℕ) (n : SeveralNode T) (noted : Noted T) (xs ys : List T) → ((new : SeveralNode T) → several_went n noted new → ArePassed (IsIn several_machine m i) (IsOut several_machine m) n xs ys new) → (new : AnyNode T) → any_went (Several n) noted new → ArePassed (IsIn kind_machine m i) (IsOut kind_machine m) (Several n) xs ys new
-passed_several_all m i n noted xs ys h (Several k) w = passed_in Several (IsIn several_machine m i) (IsOut several_machine m) (IsIn kind_machine m i) (IsOut kind_machine m) (in_several m i) (out_several m) xs ys n k (h k w)
+step_several : {T : Type 0} (m : Meaning T) (s : SeveralNode T) (asked sent : ℕ) (t : SeveralNode T) → IsStepOf several_machine m s asked sent t → IsStepOf kind_machine m (Several s) asked sent (Several t)
+step_several m s asked sent t (inl p) =
+    let h = p.1 in
+    inl (p.0, record { can = h.can; value = h.value; recorded = h.recorded; composes = h.composes; counts = stepped_several s t h.counts; alike = h.alike })
+step_several m s asked sent t (inr h) = inr (record { can = h.can; row = h.row; value = h.value; recorded = h.recorded; counts = stepped_several s t h.counts; alike = h.alike })
+
+out_several_by : {T : Type 0} (m : Meaning T) (by : Bool) (s : SeveralNode T) (x : T) (t : SeveralNode T) → IsOutBy several_machine m by s x t → IsOutBy kind_machine m by (Several s) x (Several t)
+out_several_by m false s x t h = out_several m s x t h
+out_several_by m true s x t h = λ asked sent less.
+    let o = h asked sent less in
+    (Several o.0, step_several m s asked sent o.0 o.1, o.2, out_several m o.0 x t o.3)
+
+pub passed_several_all : {T : Type 0} (m : Meaning T) (i : ℕ) (n : SeveralNode T) (noted : Noted T) (xs ys : List T) → ((new : SeveralNode T) → several_went n noted new → ArePassed (IsIn several_machine m i) (IsOutBy several_machine m noted.by_step) n xs ys new) → (new : AnyNode T) → any_went (Several n) noted new → ArePassed (IsIn kind_machine m i) (IsOutBy kind_machine m noted.by_step) (Several n) xs ys new
+passed_several_all m i n noted xs ys h (Several k) w = passed_in Several (IsIn several_machine m i) (IsOutBy several_machine m noted.by_step) (IsIn kind_machine m i) (IsOutBy kind_machine m noted.by_step) (in_several m i) (out_several_by m noted.by_step) xs ys n k (h k w)
 passed_several_all m i n noted xs ys h (Source k) w = absurd w
 passed_several_all m i n noted xs ys h (Plain k) w = absurd w
 passed_several_all m i n noted xs ys h (PublishOn k) w = absurd w

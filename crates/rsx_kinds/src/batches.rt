@@ -1,12 +1,14 @@
-//! Batches through nodes of any kind. Ranges make them, and plain operators, a concat and a `publishOn` with an empty queue pass them on.
+//! Batches through nodes of any kind. Ranges make them, and plain operators, a concat, a merge, a combineLatest and a `publishOn` with an
+//! empty queue pass them on.
 
 ghost use Rattle.std.specs.Prelude.{◌≡◌, [], true};
 ghost use Rattle.rsx_kinds.specs.Went.{any_went, several_went, source_went};
 ghost use Rattle.rsx_merging.specs.PublishOn.{publish_takes};
 
 use crate::{AnyNode, SeveralNode, SourceNode};
+use rsx_combining::PassingRows;
 use rsx_merging::PublishOnNode;
-use rsx_rooted::{After, Batches, Noted};
+use rsx_rooted::{After, Batches, FEWEST_IN_BATCH, Noted};
 use rsx_sources::{Front, Machine};
 use rsx_types::Ops;
 use std::alloc::Global;
@@ -63,10 +65,15 @@ impl<T: Drop> Batches for SeveralNode<T> {
     fn most(&self) -> u64 {
         match self {
             SeveralNode::Concat(_) => u64::MAX,
-            SeveralNode::Merge(_)
-            | SeveralNode::MergeDelay(_)
-            | SeveralNode::Zip(_)
-            | SeveralNode::Latest(_) => 0,
+            SeveralNode::Merge(node) => match node.records().last() {
+                Some(run) if node.merges_through(run.input, FEWEST_IN_BATCH) => u64::MAX,
+                _ => 0,
+            },
+            SeveralNode::Latest(node) => match node.records().last() {
+                Some(run) if node.rows_through(run.input, FEWEST_IN_BATCH) => u64::MAX,
+                _ => 0,
+            },
+            SeveralNode::MergeDelay(_) | SeveralNode::Zip(_) => 0,
         }
     }
 
@@ -80,7 +87,8 @@ impl<T: Drop> Batches for SeveralNode<T> {
         None
     }
 
-    /// The items of a concat's input whose turn it is go through as they are.
+    /// The items of a concat's input whose turn it is go through as they are. Where the last choice was of the same input, so do those of
+    /// a merge, and those of a combineLatest as rows; each is picked at once.
     fn try_pass<O: Ops<Item = T>>(
         &self,
         alloc: Global,
@@ -96,29 +104,65 @@ impl<T: Drop> Batches for SeveralNode<T> {
                 }
                 Some(Noted {
                     took: items.len() as u64,
+                    steps: 0,
+                    by_step: false,
                     after: After::Counted,
                 })
             }
-            SeveralNode::Merge(_)
-            | SeveralNode::MergeDelay(_)
-            | SeveralNode::Zip(_)
-            | SeveralNode::Latest(_) => None,
+            SeveralNode::Merge(node) => {
+                let count = items.len() as u64;
+                if !node.merges_through(input, count) {
+                    return None;
+                }
+                Some(Noted {
+                    took: count,
+                    steps: count,
+                    by_step: true,
+                    after: After::Picked(input),
+                })
+            }
+            SeveralNode::Latest(node) => {
+                let count = items.len() as u64;
+                match node.try_rows(alloc, ops, input, items) {
+                    Some(last) => Some(Noted {
+                        took: count,
+                        steps: count,
+                        by_step: true,
+                        after: After::Latest(input, last),
+                    }),
+                    None => None,
+                }
+            }
+            SeveralNode::MergeDelay(_) | SeveralNode::Zip(_) => None,
         }
     }
 
     fn go_on(&mut self, noted: Noted<T>)
         ensures { several_went self.old noted self.new }
     {
+        let took = noted.took;
         match self {
             SeveralNode::Concat(node) => {
                 if let After::Counted = noted.after {
-                    node.count_passed(noted.took);
+                    node.count_passed(took);
                 }
             }
-            SeveralNode::Merge(_)
-            | SeveralNode::MergeDelay(_)
-            | SeveralNode::Zip(_)
-            | SeveralNode::Latest(_) => {},
+            SeveralNode::Merge(node) => {
+                if let After::Picked(input) = noted.after {
+                    // It does so each time that it noted this.
+                    if node.merges_through(input, took) {
+                        node.count_merged(input, took);
+                    }
+                }
+            }
+            SeveralNode::Latest(node) => {
+                if let After::Latest(input, last) = noted.after {
+                    if node.rows_through(input, took) {
+                        node.count_rows(input, took, last);
+                    }
+                }
+            }
+            SeveralNode::MergeDelay(_) | SeveralNode::Zip(_) => {},
         }
     }
 }
@@ -178,6 +222,8 @@ impl<T: Drop> Batches for AnyNode<T> {
                 }
                 Some(Noted {
                     took: items.len() as u64,
+                    steps: 0,
+                    by_step: false,
                     after: After::Counted,
                 })
             }

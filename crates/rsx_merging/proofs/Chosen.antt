@@ -1,7 +1,7 @@
 -- An input is picked: the value under the choice, and the counts.
 use Rattle.std.proofs.lemmas.List.{length-set}
 use Rattle.std.proofs.Common.{◌≡◌, ℕ, zero, suc, ◌+◌, ◌<◌, ◌&&◌, Bool, true, false, List, [], ◌∷◌, ◌++◌, length, slice_index_or, slice_set, slice_get, Option, Some, None, option_map, IfSome, inl, refl, ap, sym, ◌∙◌, subst, arith}
-use Rattle.rsx_sources.specs.Prelude.{Note, Picks, Cause, Signal, Next, Complete, Error, Meaning, note_then, Stream, CountsStep, Incoming, IsSteppedOut, front_of}
+use Rattle.rsx_sources.specs.Prelude.{Note, Picks, Cause, Signal, Next, Complete, Error, Meaning, note_then, Stream, CountsStep, Incoming, IsItemOut, IsPickDone, IsSteppedOut, front_of}
 use Rattle.rsx_queued.specs.declared.tail.Tail.{Tail}
 use Rattle.rsx_queued.specs.declared.tail.Tail.TheVariants.{Open, Completion, Failure, Taken}
 use Rattle.rsx_queued.specs.Prelude.{first_held, is_ended, unless_taken, still, is_taken, is_gone, next_signal, without, Gives, IsCounted, is_over, is_empty, has_ending, head_of, tail_of, next_signal_at, done_at, inputs_left, are_gone, AreCounted, may_go}
@@ -165,22 +165,28 @@ failure_counts old new i c q p k ins out = ending old new k.empty (ap has_ending
 
 -- ---- an item of an input is picked, and goes out at once
 
-pub item_gone : {T : Type 0} (m : Meaning T) (old new : MergeNode T) (i asked sent : ℕ) (x : T) (q p : QueuedInput T) → merge_picks old i asked sent ≡ true → IsPick old.output old.inputs.items i (Next x) q p → new.inputs.items ≡ slice_set old.inputs.items i p → new.output ≡ old.output → written new.choices ≡ written old.choices ++ i ∷ [] →
-    IsSteppedOut (merge_comes_out m) (merge_waiting m) merge_picks (λ n a s. false) (λ n a s k. ⊥) merge_popped merge_recording merge_recorded merge_counted merge_ended merge_done old asked sent (Some x) new
-item_gone {T} m old new i asked sent x q p picks k ins out notes =
+-- the item x was picked of input i, which leaves the node going on, and then it went out
+abbrev pub IsPickedOut : {T : Type 0} → Meaning T → MergeNode T → ℕ → ℕ → ℕ → T → MergeNode T → Type 0
+IsPickedOut {T} m old i asked sent x new =
+    (picked : MergeNode T)
+    × IsPickDone (merge_comes_out m) merge_picks merge_recording merge_recorded merge_counted merge_ended merge_done old i asked sent picked
+    × (merge_ended picked ≡ false)
+    × IsItemOut (merge_comes_out m) (merge_waiting m) merge_popped merge_recorded merge_counted merge_ended merge_done picked x new
+
+pub picked_out : {T : Type 0} (m : Meaning T) (old new : MergeNode T) (i asked sent : ℕ) (x : T) (q p : QueuedInput T) → merge_picks old i asked sent ≡ true → IsPick old.output old.inputs.items i (Next x) q p → new.inputs.items ≡ slice_set old.inputs.items i p → new.output ≡ old.output → written new.choices ≡ written old.choices ++ i ∷ [] →
+    IsPickedOut m old i asked sent x new
+picked_out {T} m old new i asked sent x q p picks k ins out notes =
     let mid : MergeNode T = record new { output = Waiting (Next x) } in
     let left : new.output ≡ Empty = out ∙ k.empty in (
       mid,
-      inl (
-        i,
-        record {
-          enabled = picks;
-          value = λ inc further. rw ins (item_picked old.output (Waiting (Next x)) old.inputs.items i x q p k refl inc further);
-          notes = ap Picks notes;
-          composes = picks_compose (written old.choices) (i ∷ []);
-          counts = item_counts old mid i x q p k ins refl;
-        },
-      ),
+      record {
+        enabled = picks;
+        value = λ inc further. rw ins (item_picked old.output (Waiting (Next x)) old.inputs.items i x q p k refl inc further);
+        notes = ap Picks notes;
+        composes = picks_compose (written old.choices) (i ∷ []);
+        counts = item_counts old mid i x q p k ins refl;
+      },
+      refl,
       record {
         waited = refl;
         popped_out = ((refl, left), refl, refl);
@@ -189,3 +195,7 @@ item_gone {T} m old new i asked sent x q p picks k ins out notes =
         counts = (ap has_ending left, (λ taken n h. record { not_over = ap is_over left; some_left = h.some_left; few = h.few; counts = h.counts }), λ j d. d);
       },
     )
+
+pub item_gone : {T : Type 0} (m : Meaning T) (old new : MergeNode T) (i asked sent : ℕ) (x : T) (q p : QueuedInput T) → merge_picks old i asked sent ≡ true → IsPick old.output old.inputs.items i (Next x) q p → new.inputs.items ≡ slice_set old.inputs.items i p → new.output ≡ old.output → written new.choices ≡ written old.choices ++ i ∷ [] →
+    IsSteppedOut (merge_comes_out m) (merge_waiting m) merge_picks (λ n a s. false) (λ n a s k. ⊥) merge_popped merge_recording merge_recorded merge_counted merge_ended merge_done old asked sent (Some x) new
+item_gone m old new i asked sent x q p picks k ins out notes = let g = picked_out m old new i asked sent x q p picks k ins out notes in (g.0, inl (i, g.1), g.3)

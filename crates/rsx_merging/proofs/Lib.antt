@@ -5,6 +5,7 @@ pub mod Concats
 pub mod Copied
 pub mod Fresh
 pub mod LaneItems
+pub mod Merged
 pub mod Passes
 pub mod Picked
 pub mod Places

@@ -1,11 +1,16 @@
 -- The merge as a node: the queues of its inputs, what it has put out, and the choices made.
-use Rattle.std.specs.Prelude.{◌≡◌, ℕ, ◌≤◌, ◌^◌, Bool, false, ◌&&◌, List, [], ◌∷◌, length, slice_get, Option, option_map}
+use Rattle.std.specs.Prelude.{◌≡◌, ℕ, zero, suc, ◌≤◌, ◌^◌, nat_le, Bool, false, ◌&&◌, List, [], ◌∷◌, length, slice_get, Option, Some, None, option_map, is_none}
+use Rattle.std.specs.Global.{Vec}
+use Rattle.std.specs.Vec.{with_item}
 use Rattle.rsx_sources.specs.Prelude.{Note, Picks, Signal, Meaning, Stream, Incoming, front_of}
+use Rattle.rsx_demand.specs.Demand.{saturating_total}
 use Rattle.rsx_sources.specs.declared.machine.Front.{Front}
+use Rattle.rsx_sources.specs.declared.machine.Front.TheVariants.{Item}
+use Rattle.rsx_prefetch.specs.Queue.{queue}
 use Rattle.rsx_queued.specs.Prelude.{may_go, takes_at, next_signal_at, credits_at, waiting_at, done_at, are_gone, AreCounted, inputs_left, merge_behind, out_signal, is_empty, is_over, has_ending, IsOut}
 use Rattle.rsx_queued.specs.declared.input.QueuedInput.{QueuedInput}
 use Rattle.rsx_queued.specs.declared.output.Output.{Output}
-use Rattle.rsx_values.specs.Record.{written}
+use Rattle.rsx_values.specs.Record.{written, room_of_last, added_to_last}
 use Rattle.rsx_merging.specs.declared.merge_node.MergeNode.{MergeNode}
 
 -- what was put out, and then the merge of the inputs under the further choices; behind an ending nothing can be chosen
@@ -59,3 +64,33 @@ merge_queued n i = waiting_at (slice_get n.inputs.items i)
 
 abbrev pub merge_popped : {T : Type 0} → MergeNode T → Signal T → MergeNode T → Type 0
 merge_popped old s new = IsOut old.output s new.output × (old.inputs ≡ new.inputs) × (old.choices ≡ new.choices)
+
+-- ---- items that go through it in one go
+
+-- whether so many items of input i can go through it, one after the other: nothing waits to go out, the input takes an item and has
+-- none yet, and the choices of it are all more of the last run
+abbrev pub merges_through : {T : Type 0} → MergeNode T → ℕ → ℕ → Bool
+merges_through n i items =
+    is_empty n.output && (merge_takes n i Item && (is_none (next_signal_at (slice_get n.inputs.items i)) && nat_le items (room_of_last n.choices i)))
+
+-- an input after so many items more went through it
+abbrev pub input_passed : {T : Type 0} → QueuedInput T → ℕ → QueuedInput T
+input_passed q k = record { queue = queue q.queue.items q.queue.capacity (saturating_total q.queue.taken k); tail = q.tail }
+
+-- the inputs after so many items more went through input i, if it is there
+abbrev pub inputs_passed : {T : Type 0} → Vec (QueuedInput T) → ℕ → Option (QueuedInput T) → ℕ → Vec (QueuedInput T)
+inputs_passed v i None k = v
+inputs_passed v i (Some q) k = with_item v i (input_passed q k)
+
+-- the node with so many items more counted of input i, and as many choices of the last run
+abbrev pub merged_more : {T : Type 0} → MergeNode T → ℕ → ℕ → MergeNode T
+merged_more n i k = record { inputs = inputs_passed n.inputs i (slice_get n.inputs.items i) k; output = n.output; choices = added_to_last n.choices k }
+
+-- the node after an item of input i was taken in and picked, and went out
+abbrev pub after_merged : {T : Type 0} → MergeNode T → ℕ → MergeNode T
+after_merged n i = merged_more n i 1
+
+-- the node after so many were, one after the other
+abbrev pub after_all_merged : {T : Type 0} → MergeNode T → ℕ → ℕ → MergeNode T
+after_all_merged n i zero = n
+after_all_merged n i (suc k) = after_all_merged (after_merged n i) i k

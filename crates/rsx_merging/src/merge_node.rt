@@ -39,7 +39,7 @@ impl<T: Drop> MergeNode<T> {
     ghost use Rattle.rsx_queued.specs.Input.{fresh_input};
     ghost use Rattle.rsx_queued.specs.Values.{first_values};
     ghost use Rattle.rsx_queued.specs.Inputs.{next_signal_at, picked};
-    ghost use Rattle.rsx_merging.specs.Merge.{merge_comes_out, merge_counted, merge_picks, merge_queued};
+    ghost use Rattle.rsx_merging.specs.Merge.{merge_comes_out, merge_counted, merge_picks, merge_queued, merges_through, after_all_merged};
 
     /// The merge of so many inputs, each with a queue of this capacity, 1 to [`LARGEST`](rsx_prefetch::LARGEST). That of no inputs
     /// completes at once.
@@ -80,6 +80,30 @@ impl<T: Drop> MergeNode<T> {
         ensures { result.now ≡ self.now.choices }
     {
         self.choices.runs()
+    }
+
+    /// Whether so many items of an input can go through, one after the other, so that taking in, picking and sending each takes no
+    /// memory: nothing waits to go out, the input takes an item and has none yet, and the choices are all more of the last run.
+    pub fn merges_through(&self, input: u64, items: u64) -> bool
+        ensures { result ≡ merges_through self.now input items }
+    {
+        self.output.is_empty()
+            && takes_at(self.inputs.as_slice(), input, Front::Item)
+            && front_at(self.inputs.as_slice(), input).is_none()
+            && items <= self.choices.room_of_last(input)
+    }
+
+    /// Counts so many items as gone through from an input: what taking in, picking and sending one after the other leaves. It takes
+    /// no memory. What the inputs hold and what waits to go out stay as they are.
+    pub fn count_merged(&mut self, input: u64, items: u64)
+        requires { merges_through self.old input items ≡ true }
+        ensures { self.new ≡ after_all_merged self.old input items }
+    {
+        if items == 0 {
+            return;
+        }
+        self.inputs[input as usize].queue.count_passed(items);
+        self.choices.push_times(input, items);
     }
 
     /// The lowest-numbered input that can be picked, where an item is next there.

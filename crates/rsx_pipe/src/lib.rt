@@ -2,6 +2,7 @@
 //! Parts: trees of nodes, each with the edge from its root.
 //!
 //! - [`part`]: [`Part`], one tree with the edge from its root: every move of it, as a [`NodeMove`], and `pump`.
+//! - [`ahead`]: the moves that let many items come at once.
 //! - [`crossing`]: how an edge joins its two ends.
 //! - [`cutting`]: a part is cut at an edge that crosses to another region, and joined there again.
 //! - [`feeding`]: signals go over the root edge into the hands of the caller.
@@ -17,6 +18,7 @@
 //! on), `Feeding` (what goes out into the hands of the caller, and the moves inside a tree) and `Many` (one move, made many
 //! times).
 
+pub mod ahead;
 pub mod crossing;
 pub mod cutting;
 pub mod feeding;

@@ -1,5 +1,6 @@
 //! A part of a graph: one tree of nodes with its edges.
 
+use crate::ahead::{make_ahead, waiting};
 pub use rsx_rooted::Pumped;
 use rsx_rooted::{Batch, Batches, Nodes, Rooted, Sink};
 use rsx_sources::NotMade;
@@ -234,8 +235,8 @@ impl<N: Nodes> Part<N> {
 }
 
 impl<N: Nodes + Batches> Part<N> {
-    ghost use Rattle.std.specs.Prelude.{◌≡◌, ◌≤◌, [], length, true, false};
-    ghost use Rattle.rsx_pipe.specs.Fetched.{AreFetched};
+    ghost use Rattle.std.specs.Prelude.{◌≡◌, ◌<◌, ◌≤◌, [], None, length, true, false};
+    ghost use Rattle.rsx_pipe.specs.Fetched.{AreFetched, IsFetched};
 
     /// Pulls at most `most` items through the part and over its root edge, many at once: what that many calls of [`Part::fetch`] would
     /// do it does for all of them. They are in `batch`: the caller puts them into the queue behind the root edge, which has to have
@@ -259,5 +260,26 @@ impl<N: Nodes + Batches> Part<N> {
         ensures no { result ≡ false → (self.new ≡ self.old) × (left.new ≡ left.old) }
     {
         self.rooted.fetch_batch(alloc, ops, most, left, batch)
+    }
+
+    /// Makes a move on the way down to the items, so that many of them may be pulled at once, as [`make_ahead`] does: the Send of a
+    /// completion, or an Ask. It answers no where there is none to make. Then nothing has changed.
+    pub fn make_ahead<O: Ops<Item = N::Item>>(
+        &mut self,
+        alloc: Global,
+        ops: &O,
+        left: &mut u32,
+    ) -> bool
+        ensures made { IsFetched N.Machine (O.meaning ops.now) left.old self.old None left.new self.new }
+        ensures yes { result ≡ true → left.new < left.old }
+        ensures no { result ≡ false → (self.new ≡ self.old) × (left.new ≡ left.old) }
+    {
+        make_ahead(alloc, ops, &mut self.rooted, left)
+    }
+
+    /// How many signals wait in the first queue that holds some, on the way down to the items: as many are to be pulled one by one
+    /// before many may be at once. It is a hint, so nothing is promised of it.
+    pub fn waiting(&self) -> u64 {
+        waiting(&self.rooted.tree.machine, &self.rooted.tree.inputs, 0)
     }
 }

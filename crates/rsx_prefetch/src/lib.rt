@@ -136,6 +136,15 @@ impl<T: Drop> Prefetch<T> {
         self.taken = taken;
     }
 
+    /// Counts so many items more as taken, which never stood in the queue: what putting each of them in and taking it out again counts.
+    /// The count stops at 2^63 - 1.
+    pub fn count_passed(&mut self, items: u64)
+        ensures { self.new ≡ queue self.old.items self.old.capacity (saturating_total self.old.taken items) }
+    {
+        let taken = saturating_total(self.taken, items);
+        self.taken = taken;
+    }
+
     /// The front item, the next that [`Prefetch::take`] gives.
     pub fn front(&self) -> Option<&T>
         ensures { option_copied result ≡ slice_get self.now.items 0 }

@@ -20,7 +20,7 @@ abbrev IsGone : {M T : Type 0} → Machine M T → Meaning T → Queued M T → 
 IsGone b m old asked taken o new = IsSteppedOut (queued_comes_out b m) (queued_waiting m) (queued_picks b) (queued_rows b) (IsQueuedRow b) queued_popped (λ k i. b.recording k.node i) (λ k. b.recorded k.node) (queued_counted b) (queued_ended b) (queued_done b) old asked taken o new
 
 -- a node with these items in its queue, and no ending
-abbrev holding : {M T : Type 0} → M → List T → Queued M T
+abbrev pub holding : {M T : Type 0} → M → List T → Queued M T
 holding n q = record { node = n; queue = q; tail = Open }
 
 through : {T : Type 0} (x : T) (o : Option (Stream T)) → option_map (held_then (x ∷ []) Open) o ≡ option_map (held_then [] Open) (option_map (signal_then (Next x)) o)
@@ -31,7 +31,7 @@ leaves : {T : Type 0} (x : T) (o : Option (Stream T)) → option_map (held_then 
 leaves x None = refl
 leaves x (Some v) = refl
 
-row_at : {M T : Type 0} (b : Machine M T) (m : Meaning T) → Shows b m → (n n' : M) (asked taken : ℕ) (x : T) → can_move {T = T} (b.shown n) [] Open asked taken ≡ true → IsItemOut (b.comes_out m) (b.waiting m) b.popped b.recorded b.counted b.ended b.done n x n' →
+pub row_at : {M T : Type 0} (b : Machine M T) (m : Meaning T) → Shows b m → (n n' : M) (asked taken : ℕ) (x : T) → can_move {T = T} (b.shown n) [] Open asked taken ≡ true → IsItemOut (b.comes_out m) (b.waiting m) b.popped b.recorded b.counted b.ended b.done n x n' →
     IsRowDone (queued_comes_out b m) (queued_rows b) (IsQueuedRow b) (λ k. b.recorded k.node) (queued_counted b) (queued_ended b) (queued_done b) (holding n []) asked taken (holding n' (x ∷ []))
 row_at {T = T} b m shows n n' asked taken x can out = record {
   enabled = ap (λ c. c || (true && b.rows n asked (node_sent {T = T} [] asked taken))) can;
@@ -51,7 +51,7 @@ row_at {T = T} b m shows n n' asked taken x can out = record {
   };
 }
 
-out_at : {M T : Type 0} (b : Machine M T) (m : Meaning T) (n' : M) (x : T) → IsItemOut (queued_comes_out b m) (queued_waiting m) queued_popped (λ k. b.recorded k.node) (queued_counted b) (queued_ended b) (queued_done b) (holding n' (x ∷ [])) x (holding n' [])
+pub out_at : {M T : Type 0} (b : Machine M T) (m : Meaning T) (n' : M) (x : T) → IsItemOut (queued_comes_out b m) (queued_waiting m) queued_popped (λ k. b.recorded k.node) (queued_counted b) (queued_ended b) (queued_done b) (holding n' (x ∷ [])) x (holding n' [])
 out_at b m n' x = record {
   waited = refl;
   popped_out = (refl, refl, refl, room);

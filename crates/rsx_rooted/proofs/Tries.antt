@@ -10,7 +10,7 @@ use Rattle.rsx_tree.specs.Fetched.{IsOut}
 use Rattle.rsx_tree.specs.declared.edge.Edge.{Edge}
 use Rattle.rsx_tree.specs.declared.inputs.Inputs.{Inputs, End, More'}
 use Rattle.rsx_tree.specs.declared.inputs.Inputs.TheViews.{More}
-use Rattle.rsx_rooted.specs.Items.{ArePassed, ArePopped, IsIn, IsRowBatch, carried, room}
+use Rattle.rsx_rooted.specs.Items.{ArePassed, ArePopped, IsIn, IsOutBy, IsRowBatch, carried, room, steps_for}
 use Rattle.rsx_rooted.specs.Made.{Fits, FitsBelow, HasGoneOn, HaveGoneOn, IsTried, moves_of}
 use Rattle.rsx_rooted.specs.declared.batch.Noted.{Noted}
 use Rattle.rsx_rooted.proofs.OverEdges.{batch_beside, items_popped, joined}
@@ -29,7 +29,7 @@ last_same (z ∷ xs) (w ∷ ys) x y h =
     let same = both.0 in
     (cc, both.1)
 
-pub moves_last : {T : Type 0} (notes : List (Noted T)) (top : Noted T) → moves_of (notes ++ top ∷ []) ≡ moves_of notes + top.took
+pub moves_last : {T : Type 0} (notes : List (Noted T)) (top : Noted T) → moves_of (notes ++ top ∷ []) ≡ moves_of notes + top.took + top.steps
 moves_last [] top = omega arith
 moves_last (x ∷ xs) top = let more = moves_last xs top in omega (arith, more)
 
@@ -38,26 +38,28 @@ not_both v x y = cc
 
 -- a source made items
 pub tried_source : {M T : Type 0} (b : Machine M T) (went : M → Noted T → M → Type 0) (m : Meaning T) (i : ℕ) (n : M) (row : Inputs M) (xs : List T) (notes : List (Noted T)) (noted : Noted T) →
-    row ≡ End → noted.took ≡ 0 → notes ≡ noted ∷ [] → ((new : M) → went n noted new → ArePopped (IsOut b m) n xs new) → IsTried b went m i n row xs notes
-tried_source {M} {T} b went m i n row xs notes noted none took all popped =
+    row ≡ End → noted.took ≡ 0 → noted.steps ≡ steps_for noted.by_step (length xs) → notes ≡ noted ∷ [] → ((new : M) → went n noted new → ArePopped (IsOutBy b m noted.by_step) n xs new) → IsTried b went m i n row xs notes
+tried_source {M} {T} b went m i n row xs notes noted none took steps all popped =
     let N : List (Noted T) → Type 0 = λ l. IsTried b went m i n row xs l in
     let R : Inputs M → Type 0 = λ t. IsTried b went m i n t xs (noted ∷ []) in
     subst N (sym all) (subst R (sym none) (record {
       fits = ([], noted, refl, refl);
+      by_step = noted.by_step;
       made = λ asked sent n' row' h.
           let same = last_same [] h.0 noted h.1 h.2 in
           let W : Noted T → Type 0 = λ k. went n k n' in
-          let moves : 0 ≡ moves_of (noted ∷ []) = omega (arith, took) in
-          let C : ℕ → Type 0 = λ k. IsRowBatch b m k i asked sent n End xs n' row' in
-          let T' : Inputs M → Type 0 = λ t. IsRowBatch b m 0 i asked sent n End xs n' t in
-          subst C moves (subst T' (sym h.4.1) (items_popped b m xs i asked sent n n' End (popped n' (subst W (sym same.1) h.3))));
+          let mine : ℕ = steps_for noted.by_step (length xs) in
+          let moves : mine ≡ moves_of (noted ∷ []) = omega (arith, took, steps) in
+          let C : ℕ → Type 0 = λ k. IsRowBatch b m noted.by_step k i asked sent n End xs n' row' in
+          let T' : Inputs M → Type 0 = λ t. IsRowBatch b m noted.by_step mine i asked sent n End xs n' t in
+          subst C moves (subst T' (sym h.4.1) (items_popped b m noted.by_step xs i asked sent n n' End (popped n' (subst W (sym same.1) h.3))));
     }))
 
 -- a batch that was tried below a live edge went through the node over it
 pub tried_over : {M T : Type 0} (b : Machine M T) (went : M → Noted T → M → Type 0) (m : Meaning T) (i : ℕ) (n : M) (row : Inputs M) (e : Edge) (s : M) (below beside : Rest M) (was : Inputs M) (xs ys : List T) (notes all : List (Noted T)) (noted : Noted T) →
-    row ≡ More e s below beside → was ≡ below.value → is_live e.state ≡ true → length xs ≤ room (edge_view e) → IsTried b went m 0 s was xs notes → all ≡ notes ++ noted ∷ [] → noted.took ≡ length xs →
-    ((new : M) → went n noted new → ArePassed (IsIn b m i) (IsOut b m) n xs ys new) → IsTried b went m i n row ys all
-tried_over {M} {T} b went m i n row e s below beside was xs ys notes all noted is at live fits tried whole took passed =
+    row ≡ More e s below beside → was ≡ below.value → is_live e.state ≡ true → length xs ≤ room (edge_view e) → IsTried b went m 0 s was xs notes → all ≡ notes ++ noted ∷ [] → noted.took ≡ length xs → noted.steps ≡ steps_for noted.by_step (length ys) →
+    ((new : M) → went n noted new → ArePassed (IsIn b m i) (IsOutBy b m noted.by_step) n xs ys new) → IsTried b went m i n row ys all
+tried_over {M} {T} b went m i n row e s below beside was xs ys notes all noted is at live fits tried whole took steps passed =
     let P : Hold = record { ptr = below.ptr; alloc = below.alloc; value = tt } in
     let Q : Hold = record { ptr = beside.ptr; alloc = beside.alloc; value = tt } in
     let here : Inputs M = More' e s P was Q beside.value in
@@ -67,6 +69,7 @@ tried_over {M} {T} b went m i n row e s below beside was xs ys notes all noted i
     let f = tried.fits in
     let whole_row : IsTried b went m i n here ys (notes ++ noted ∷ []) = record {
       fits = (notes, noted, refl, inl (live, omega (arith, took, fits), f.0, f.1, f.2, f.3));
+      by_step = noted.by_step;
       made = λ asked sent n' row' h.
           let same = last_same notes h.0 noted h.1 h.2 in
           let W : Noted T → Type 0 = λ k. went n k n' in
@@ -75,10 +78,11 @@ tried_over {M} {T} b went m i n row e s below beside was xs ys notes all noted i
             | inl g ↦
                 let gone : HasGoneOn went notes s was g.2 g.3 = (g.4, g.5, same.0 ∙ g.8, g.9, g.10) in
                 let edge : edge_view g.1 ≡ carried (edge_view e) (length xs) = g.7 ∙ ap (carried (edge_view e)) (ap (λ k. k.took) (sym same.1) ∙ took) in
-                let moves : moves_of notes + length xs ≡ moves_of (notes ++ noted ∷ []) = ap (λ k. moves_of notes + k) (sym took) ∙ sym (moves_last notes noted) in
-                let C : ℕ → Type 0 = λ k. IsRowBatch b m k i asked sent n here ys n' (More' g.1 g.2 P g.3 Q beside.value) in
-                let T' : Inputs M → Type 0 = λ t. IsRowBatch b m (moves_of (notes ++ noted ∷ [])) i asked sent n here ys n' t in
-                subst T' (sym g.6) (subst C moves (joined b m xs ys (moves_of notes) i asked sent n n' e g.1 s g.2 P was g.3 Q beside.value (tried.made e.demand.asked e.demand.sent g.2 g.3 gone) up fits edge))
+                let last = moves_last notes noted in
+                let moves : moves_of notes + length xs + steps_for noted.by_step (length ys) ≡ moves_of (notes ++ noted ∷ []) = omega (arith, last, took, steps) in
+                let C : ℕ → Type 0 = λ k. IsRowBatch b m noted.by_step k i asked sent n here ys n' (More' g.1 g.2 P g.3 Q beside.value) in
+                let T' : Inputs M → Type 0 = λ t. IsRowBatch b m noted.by_step (moves_of (notes ++ noted ∷ [])) i asked sent n here ys n' t in
+                subst T' (sym g.6) (subst C moves (joined b m tried.by_step noted.by_step xs ys (moves_of notes) i asked sent n n' e g.1 s g.2 P was g.3 Q beside.value (tried.made e.demand.asked e.demand.sent g.2 g.3 gone) up fits edge))
             | inr g ↦ absurd (not_both (is_live e.state) live g.0)
           ];
     } in
@@ -96,13 +100,14 @@ tried_beside {M} {T} b went m i next n row e s below beside was ys notes is at d
     let f = tried.fits in
     let whole_row : IsTried b went m i n here ys notes = record {
       fits = (f.0, f.1, f.2, inr (dead, f.3));
+      by_step = tried.by_step;
       made = λ asked sent n' row' h. elim h.4 [
         | inl g ↦ absurd (not_both (is_live e.state) g.0 dead)
         | inr g ↦
             let gone : HasGoneOn went notes n was n' g.1 = (h.0, h.1, h.2, h.3, g.3) in
-            let I : ℕ → Type 0 = λ k. IsRowBatch b m (moves_of notes) k asked sent n was ys n' g.1 in
-            let T' : Inputs M → Type 0 = λ t. IsRowBatch b m (moves_of notes) i asked sent n here ys n' t in
-            subst T' (sym g.2) (batch_beside b m ys (moves_of notes) i asked sent n n' e s P below.value Q was g.1 (subst I up (tried.made asked sent n' g.1 gone)))
+            let I : ℕ → Type 0 = λ k. IsRowBatch b m tried.by_step (moves_of notes) k asked sent n was ys n' g.1 in
+            let T' : Inputs M → Type 0 = λ t. IsRowBatch b m tried.by_step (moves_of notes) i asked sent n here ys n' t in
+            subst T' (sym g.2) (batch_beside b m tried.by_step ys (moves_of notes) i asked sent n n' e s P below.value Q was g.1 (subst I up (tried.made asked sent n' g.1 gone)))
       ];
     } in
     subst R (sym is) (subst B at whole_row)

@@ -1,11 +1,12 @@
 -- Items that go through nodes several at once: the single calls and moves that do the same, item by item.
-use Rattle.std.specs.Prelude.{◌≡◌, ◌⊎◌, ℕ, ◌+◌, ◌-◌, Bool, true, false, List, [], ◌∷◌}
+use Rattle.std.specs.Prelude.{◌≡◌, ◌⊎◌, ℕ, ◌+◌, ◌-◌, ◌<◌, Bool, true, false, List, [], ◌∷◌}
 use Rattle.rsx_sources.specs.Prelude.{Meaning, Next, IsTakenIn}
 use Rattle.rsx_sources.specs.declared.machine.Machine.{Ghosts as Machine}
 use Rattle.rsx_tree.specs.Allocates.{IsNodeAlike}
 use Rattle.rsx_tree.specs.Driven.{IsRowRun}
 use Rattle.rsx_tree.specs.Edges.{EdgeView, is_live}
 use Rattle.rsx_tree.specs.Fetched.{IsOut}
+use Rattle.rsx_tree.specs.Stepped.{IsStepOf}
 use Rattle.rsx_tree.specs.declared.inputs.Inputs.{Inputs}
 
 -- how many items more may go over an edge, by whether it is live
@@ -37,10 +38,21 @@ ArePassed {T} {S} taken out old (x ∷ xs) ys new =
 abbrev pub IsIn : {M T : Type 0} → Machine M T → Meaning T → ℕ → M → T → M → Type 0
 IsIn b m i old x new = IsTakenIn (b.comes_out m) b.takes b.recorded b.counted b.ended b.done old i (Next x) new × IsNodeAlike b old new
 
--- so many moves of the row, among which the receiver offered these items one after the other, each of which went out of it, and was
--- counted as sent, before the next move
-abbrev pub IsRowBatch : {M T : Type 0} → Machine M T → Meaning T → ℕ → ℕ → ℕ → ℕ → M → Inputs M → List T → M → Inputs M → Type 0
-IsRowBatch b m count i asked sent r t [] r' t' = IsRowRun b m true count i asked sent r t r' t'
-IsRowBatch {M} b m count i asked sent r t (x ∷ xs) r' t' =
-    (first : ℕ) × (rest : ℕ) × (r1 : M) × (t1 : Inputs M) × (r2 : M) × (first + rest ≡ count)
-    × IsRowRun b m true first i asked sent r t r1 t1 × IsOut b m r1 x r2 × IsRowBatch b m rest i asked (sent + 1) r2 t1 xs r' t'
+-- how many steps a node makes for so many items: one for each, or none
+abbrev pub steps_for : Bool → ℕ → ℕ
+steps_for true n = n
+steps_for false n = 0
+
+-- an item went out of a node: it waited there; or, of a node that puts out each item by a step, a pick or a row put it out, where
+-- more is asked of the node than it sent
+abbrev pub IsOutBy : {M T : Type 0} → Machine M T → Meaning T → Bool → M → T → M → Type 0
+IsOutBy b m false = IsOut b m
+IsOutBy {M} b m true = λ n x n'. (asked sent : ℕ) → sent < asked → (mid : M) × IsStepOf b m n asked sent mid × (b.ended mid ≡ false) × IsOut b m mid x n'
+
+-- so many moves of the row and steps of its receiver, among which these items went out of the receiver one after the other, each of
+-- which was counted as sent before the next move
+abbrev pub IsRowBatch : {M T : Type 0} → Machine M T → Meaning T → Bool → ℕ → ℕ → ℕ → ℕ → M → Inputs M → List T → M → Inputs M → Type 0
+IsRowBatch b m by count i asked sent r t [] r' t' = IsRowRun b m true count i asked sent r t r' t'
+IsRowBatch {M} b m by count i asked sent r t (x ∷ xs) r' t' =
+    (first : ℕ) × (rest : ℕ) × (r1 : M) × (t1 : Inputs M) × (r2 : M) × (first + steps_for by 1 + rest ≡ count)
+    × IsRowRun b m true first i asked sent r t r1 t1 × IsOutBy b m by r1 x r2 × IsRowBatch b m by rest i asked (sent + 1) r2 t1 xs r' t'

@@ -1,5 +1,5 @@
 -- A batch that was made of a row, and what the row is after it.
-use Rattle.std.specs.Prelude.{◌≡◌, ◌⊎◌, ℕ, ◌+◌, ◌≤◌, true, false, List, [], ◌∷◌, ◌++◌}
+use Rattle.std.specs.Prelude.{◌≡◌, ◌⊎◌, ℕ, ◌+◌, ◌≤◌, Bool, true, false, List, [], ◌∷◌, ◌++◌}
 use Rattle.rsx_sources.specs.Prelude.{Meaning}
 use Rattle.rsx_sources.specs.declared.machine.Machine.{Ghosts as Machine}
 use Rattle.rsx_tree.specs.Edges.{edge_view, is_live}
@@ -8,10 +8,10 @@ use Rattle.rsx_tree.specs.declared.inputs.Inputs.{Inputs, End, More'}
 use Rattle.rsx_rooted.specs.Items.{IsRowBatch, carried, room}
 use Rattle.rsx_rooted.specs.declared.batch.Noted.{Noted}
 
--- how many items go over the edges in all
+-- how many items go over the edges, and how many steps the nodes make for them, in all
 abbrev pub moves_of : {T : Type 0} → List (Noted T) → ℕ
 moves_of [] = 0
-moves_of (x ∷ xs) = x.took + moves_of xs
+moves_of (x ∷ xs) = x.took + x.steps + moves_of xs
 
 -- the notes of the nodes below, from the lowest one up, are as many as there are nodes on the way down from the first live edge of
 -- these, and over no edge go more items than it has room for, where so many go over the first one
@@ -41,4 +41,6 @@ HasGoneOn {T = T} went notes n row n' row' = (others : List (Noted T)) × (top :
 -- noted, it does what single moves do that bring one item after the other all the way up.
 pub record IsTried {M T : Type 0} (b : Machine M T) (went : M → Noted T → M → Type 0) (m : Meaning T) (i : ℕ) (n : M) (row : Inputs M) (items : List T) (notes : List (Noted T)) : Type 0 where
   pub fits : Fits notes row
-  pub made : (asked sent : ℕ) (n' : M) (row' : Inputs M) → HasGoneOn went notes n row n' row' → IsRowBatch b m (moves_of notes) i asked sent n row items n' row'
+  -- whether the node puts out each item by a step
+  pub by_step : Bool
+  pub made : (asked sent : ℕ) (n' : M) (row' : Inputs M) → HasGoneOn went notes n row n' row' → IsRowBatch b m by_step (moves_of notes) i asked sent n row items n' row'

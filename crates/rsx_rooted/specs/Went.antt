@@ -1,11 +1,11 @@
 -- What nodes are after a batch.
-use Rattle.std.specs.Prelude.{◌≡◌}
+use Rattle.std.specs.Prelude.{◌≡◌, false}
 use Rattle.rsx_plain.specs.declared.node.PlainNode.{PlainNode}
 use Rattle.rsx_sources.specs.declared.range.RangeNode.{RangeNode}
 use Rattle.rsx_queued.specs.declared.sender.Sender.{Sender}
 use Rattle.rsx_queued.specs.declared.sender.Sender.TheVariants.{Direct, Crossing}
 use Rattle.rsx_rooted.specs.declared.batch.After.{After}
-use Rattle.rsx_rooted.specs.declared.batch.After.TheVariants.{Range, Plain, Counted}
+use Rattle.rsx_rooted.specs.declared.batch.After.TheVariants.{Range, Plain, Counted, Picked, Latest}
 use Rattle.rsx_rooted.specs.declared.batch.Noted.{Noted}
 
 -- a range went on as it noted
@@ -13,15 +13,24 @@ abbrev pub range_went : {T : Type 0} → RangeNode T → After T → RangeNode T
 range_went old (Range node) new = new ≡ node
 range_went old (Plain node) new = new ≡ old
 range_went old Counted new = new ≡ old
+range_went old (Picked i) new = new ≡ old
+range_went old (Latest i x) new = new ≡ old
 
 -- a plain operator went on as it noted
 abbrev pub plain_went : {T : Type 0} → PlainNode T → After T → PlainNode T → Type 0
 plain_went old (Plain node) new = new ≡ node
 plain_went old (Range node) new = new ≡ old
 plain_went old Counted new = new ≡ old
+plain_went old (Picked i) new = new ≡ old
+plain_went old (Latest i x) new = new ≡ old
 
--- the node inside went on, where the edge doesn't cross
+-- what a node with a queue noted, without the rows by which items went over that
+abbrev pub inside : {T : Type 0} → Noted T → Noted T
+inside n = record { took = n.took; steps = 0; by_step = false; after = n.after }
+
+-- the node inside went on, and the queue of its edge, if it has one, stays
 abbrev pub sender_went : {M T : Type 0} → (M → Noted T → M → Type 0) → Sender M T → Noted T → Sender M T → Type 0
 sender_went went (Direct n) noted (Direct n') = went n noted n'
 sender_went went (Direct n) noted (Crossing k) = ⊥
-sender_went went (Crossing k) noted new = new ≡ Crossing k
+sender_went went (Crossing k) noted (Crossing k') = went k.node (inside noted) k'.node × (k'.queue ≡ k.queue) × (k'.tail ≡ k.tail)
+sender_went went (Crossing k) noted (Direct n') = ⊥

@@ -10,7 +10,7 @@ use rsx_types::Ops;
 use std::alloc::Global;
 
 /// The most items of a batch.
-pub const MOST_IN_BATCH: u64 = 64;
+pub const MOST_IN_BATCH: u64 = 256;
 
 /// The fewest items for which a batch is tried.
 pub const FEWEST_IN_BATCH: u64 = 8;
@@ -24,6 +24,10 @@ pub enum After<T> {
     Plain(PlainNode<T>),
     /// The same, which counted the items that it took in.
     Counted,
+    /// The same, which took them in at this input and picked them.
+    Picked(u64),
+    /// The same, which took them in at this input and picked them, the last of which is this.
+    Latest(u64, T),
 }
 
 /// What a node noted of a batch that was tried.
@@ -31,6 +35,10 @@ pub enum After<T> {
 pub struct Noted<T> {
     /// How many items it takes in. None of a source.
     pub took: u64,
+    /// How many picks and rows it makes.
+    pub steps: u64,
+    /// Whether it puts out each item by one of these.
+    pub by_step: bool,
     /// What it is after it.
     pub after: After<T>,
 }
@@ -40,9 +48,8 @@ pub trait Batches: Machine {
     /// The second is the first after a batch of which it noted this.
     ghost went: { Self → NotedSpec Self.Item → Self → Type 0 };
 
-    ghost use Rattle.std.specs.Prelude.{◌≡◌, ◌≤◌, [], length, IfSome};
-    ghost use Rattle.rsx_tree.specs.Fetched.{IsOut};
-    ghost use Rattle.rsx_rooted.specs.Items.{IsIn, ArePassed, ArePopped};
+    ghost use Rattle.std.specs.Prelude.{◌≡◌, ◌≤◌, false, [], length, IfSome};
+    ghost use Rattle.rsx_rooted.specs.Items.{IsIn, IsOutBy, ArePassed, ArePopped, steps_for};
 
     /// For how many items at most it is worth to try a batch. The answer promises nothing.
     fn most(&self) -> u64;
@@ -57,8 +64,11 @@ pub trait Batches: Machine {
     ) -> Option<Noted<Self::Item>>
         requires { items.old.items ≡ [] }
         ensures took { IfSome result (λ noted. noted.took ≡ 0) }
+        ensures steps { IfSome result (λ noted. noted.steps ≡ steps_for noted.by_step (length items.new.items)) }
         ensures most { length items.new.items ≤ most }
-        ensures popped { IfSome result (λ noted. (new : Self) → went self.now noted new → ArePopped (IsOut Self.Machine (O.meaning ops.now)) self.now items.new.items new) };
+        ensures goes_on { IfSome result (λ noted. Self.ended self.now ≡ false) }
+        ensures popped { IfSome result (λ noted. (new : Self) → went self.now noted new →
+            ArePopped (IsOutBy Self.Machine (O.meaning ops.now) noted.by_step) self.now items.new.items new) };
 
     /// Makes of items of an input what the node puts out for them, and leaves it as it is. None where it declines one of them.
     fn try_pass<O: Ops<Item = Self::Item>>(
@@ -70,9 +80,10 @@ pub trait Batches: Machine {
         spare: &mut Vec<Self::Item>,
     ) -> Option<Noted<Self::Item>>
         ensures took { IfSome result (λ noted. noted.took ≡ length items.old.items) }
+        ensures steps { IfSome result (λ noted. noted.steps ≡ steps_for noted.by_step (length items.new.items)) }
         ensures most { IfSome result (λ noted. length items.new.items ≤ length items.old.items) }
         ensures passed { IfSome result (λ noted. (new : Self) → went self.now noted new →
-            ArePassed (IsIn Self.Machine (O.meaning ops.now) input) (IsOut Self.Machine (O.meaning ops.now)) self.now items.old.items items.new.items new) };
+            ArePassed (IsIn Self.Machine (O.meaning ops.now) input) (IsOutBy Self.Machine (O.meaning ops.now) noted.by_step) self.now items.old.items items.new.items new) };
 
     /// Goes on by a batch, as it noted.
     fn go_on(&mut self, noted: Noted<Self::Item>)
@@ -113,7 +124,7 @@ impl<T: Drop> Batch<T> {
         self.notes.clear();
     }
 
-    /// How many items go over the edges in all, where that is less than 2^64.
+    /// How many items go over the edges, and how many picks and rows the nodes make, in all, where that is less than 2^64.
     pub fn moves(&self) -> Option<u64>
         ensures { IfSome result (λ n. n ≡ moves_of self.now.notes.items) }
     {
@@ -121,13 +132,13 @@ impl<T: Drop> Batch<T> {
     }
 }
 
-/// How many items go over the edges by these notes in all, where that is less than 2^64.
+/// How many items go over the edges by these notes, and how many picks and rows are made, in all, where that is less than 2^64.
 fn moves_in<T>(notes: &[Noted<T>]) -> Option<u64>
     ensures { IfSome result (λ n. n ≡ moves_of notes.now) }
 {
     match notes.split_first() {
         Some((first, others)) => match moves_in(others) {
-            Some(moves) => first.took.checked_add(moves),
+            Some(moves) => first.took.checked_add(first.steps)?.checked_add(moves),
             None => None,
         },
         None => Some(0),

@@ -1,6 +1,6 @@
 //! A batch of items through a straight chain of a tree.
 
-ghost use Rattle.std.specs.Prelude.{◌≡◌, ◌+◌, ◌≤◌, ℕ, [], length, true, false, IfSome};
+ghost use Rattle.std.specs.Prelude.{◌≡◌, ◌+◌, ◌≤◌, ℕ, Bool, [], length, true, false, IfSome};
 ghost use Rattle.rsx_tree.specs.Edges.{edge_view};
 ghost use Rattle.rsx_rooted.specs.Items.{IsRowBatch, carried, room};
 ghost use Rattle.rsx_rooted.specs.Made.{Fits, FitsBelow, HasGoneOn, HaveGoneOn, IsTried, moves_of};
@@ -145,8 +145,8 @@ pub fn fetch_batch<M: Batches, O: Ops<Item = M::Item>>(
 ) -> bool
     requires items { batch.old.items.items ≡ [] }
     requires notes { batch.old.notes.items ≡ [] }
-    ensures yes { result ≡ true → (asked sent : ℕ) → (count : ℕ) × (count + left.new ≡ left.old) ×
-        IsRowBatch M.Machine (O.meaning ops.now) count 0 asked sent tree.old.machine tree.old.inputs batch.new.items.items tree.new.machine tree.new.inputs }
+    ensures yes { result ≡ true → (asked sent : ℕ) → (by : Bool) × (count : ℕ) × (count + left.new ≡ left.old) ×
+        IsRowBatch M.Machine (O.meaning ops.now) by count 0 asked sent tree.old.machine tree.old.inputs batch.new.items.items tree.new.machine tree.new.inputs }
     ensures most { result ≡ true → length batch.new.items.items ≤ most }
     ensures two { result ≡ true → length batch.new.items.items + length batch.new.items.items ≤ left.new }
     ensures no { result ≡ false → (tree.new ≡ tree.old) × (left.new ≡ left.old) }

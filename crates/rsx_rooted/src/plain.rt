@@ -54,6 +54,8 @@ impl<T: Drop> Batches for PlainNode<T> {
         match state.pass_all(alloc, ops, items, spare) {
             true => Some(Noted {
                 took,
+                steps: 0,
+                by_step: false,
                 after: After::Plain(PlainNode {
                     state,
                     slot: OutSlot::new(),

@@ -41,6 +41,8 @@ impl<T: Drop> Batches for RangeNode<T> {
         }
         Some(Noted {
             took: 0,
+            steps: 0,
+            by_step: false,
             after: After::Range(node),
         })
     }

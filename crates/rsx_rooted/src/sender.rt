@@ -1,10 +1,12 @@
-//! Batches through a node whose edge stays in its region. One with a queue at its edge makes none.
+//! Batches through a node, and over the queue of its edge, where that crosses and the queue is empty: then each item goes into the
+//! queue and out of it, which is a row.
 
-ghost use Rattle.std.specs.Prelude.{◌≡◌};
-ghost use Rattle.rsx_rooted.specs.Went.{sender_went};
+ghost use Rattle.std.specs.Prelude.{◌≡◌, [], true, false, IfSome};
+ghost use Rattle.rsx_queued.specs.Held.{is_open};
+ghost use Rattle.rsx_rooted.specs.Went.{inside, sender_went};
 
 use crate::batch::{Batches, Noted};
-use rsx_queued::Sender;
+use rsx_queued::{Queued, Sender};
 use rsx_types::Ops;
 use std::alloc::Global;
 
@@ -15,7 +17,7 @@ impl<M: Batches<Item = T>, T: Drop> Batches for Sender<M, T> {
     fn most(&self) -> u64 {
         match self {
             Sender::Direct(node) => node.most(),
-            Sender::Crossing(_) => 0,
+            Sender::Crossing(crossing) => crossing.node.most(),
         }
     }
 
@@ -28,7 +30,15 @@ impl<M: Batches<Item = T>, T: Drop> Batches for Sender<M, T> {
     ) -> Option<Noted<T>> {
         match self {
             Sender::Direct(node) => node.peek(alloc, ops, most, items),
-            Sender::Crossing(_) => None,
+            Sender::Crossing(crossing) => {
+                if !is_free(crossing) {
+                    return None;
+                }
+                match crossing.node.peek(alloc, ops, most, items) {
+                    Some(noted) => over_queue(noted, items.len() as u64),
+                    None => None,
+                }
+            }
         }
     }
 
@@ -42,7 +52,15 @@ impl<M: Batches<Item = T>, T: Drop> Batches for Sender<M, T> {
     ) -> Option<Noted<T>> {
         match self {
             Sender::Direct(node) => node.try_pass(alloc, ops, input, items, spare),
-            Sender::Crossing(_) => None,
+            Sender::Crossing(crossing) => {
+                if !is_free(crossing) {
+                    return None;
+                }
+                match crossing.node.try_pass(alloc, ops, input, items, spare) {
+                    Some(noted) => over_queue(noted, items.len() as u64),
+                    None => None,
+                }
+            }
         }
     }
 
@@ -51,7 +69,39 @@ impl<M: Batches<Item = T>, T: Drop> Batches for Sender<M, T> {
     {
         match self {
             Sender::Direct(node) => node.go_on(noted),
-            Sender::Crossing(_) => {}
+            Sender::Crossing(crossing) => {
+                let inner = Noted {
+                    took: noted.took,
+                    steps: 0,
+                    by_step: false,
+                    after: noted.after,
+                };
+                crossing.node.go_on(inner);
+            }
         }
     }
+}
+
+/// Whether items can go over the queue at once: it is empty, and no ending stands in it.
+fn is_free<M: Batches<Item = T>, T: Drop>(crossing: &Queued<M, T>) -> bool
+    ensures { result ≡ true → (crossing.now.queue ≡ []) × (is_open crossing.now.tail ≡ true) }
+{
+    crossing.queue.is_empty() && crossing.tail.is_open()
+}
+
+/// What a node noted with the rows by which so many items that it put out went over its queue. None where it puts them out by steps of
+/// its own.
+fn over_queue<T: Drop>(noted: Noted<T>, items: u64) -> Option<Noted<T>>
+    requires { noted.by_step ≡ false → noted.steps ≡ 0 }
+    ensures { IfSome result (λ all. (inside all ≡ noted) × (noted.by_step ≡ false) × (all.took ≡ noted.took) × (all.steps ≡ items) × (all.by_step ≡ true)) }
+{
+    if noted.by_step {
+        return None;
+    }
+    Some(Noted {
+        took: noted.took,
+        steps: items,
+        by_step: true,
+        after: noted.after,
+    })
 }

@@ -20,7 +20,7 @@ use rsx_types::{
 };
 use std::alloc::Global;
 
-/// How many items more than one are pulled one by one, once none came many at once, before that is tried again.
+/// How many items more than one are pulled one by one, once none came many at once and none wait in a queue, before that is tried again.
 const SINGLES: u32 = 32;
 
 /// One subscription of a graph.
@@ -466,10 +466,12 @@ impl<N: Nodes<Item = T>, T: Drop> Subscription<N, T> {
 }
 
 impl<N: Nodes<Item = T> + Batches, T: Drop> Subscription<N, T> {
-    ghost use Rattle.std.specs.Prelude.{◌≡◌, ◌<◌, ◌+◌, [], OnErr, true, false};
+    ghost use Rattle.std.specs.Prelude.{◌≡◌, ◌<◌, ◌+◌, ℕ, List, [], OnErr, true, false};
+    ghost use Rattle.rsx_types.specs.declared.names.SubId.{SubId as SubIdSpec};
+    ghost use Rattle.rsx_types.specs.declared.signal.Signal.{Signal as SignalSpec};
     ghost use Rattle.rsx_pipe.specs.Part.{pump_allocates};
     ghost use Rattle.rsx_subscriber.specs.Delivered.{IsFull};
-    ghost use Rattle.rsx_subscriber.specs.Pumped.{HasPumped, SomePumped, Spent};
+    ghost use Rattle.rsx_subscriber.specs.Pumped.{HasPumped, IsPumped, SomePumped, Spent};
 
     /// Where nothing is queued, pulls items through the part and hands them to the subscriber, as long as each comes in one go
     /// and the budget lasts, many at once where they come so. Answers how many of the budget are left.
@@ -523,10 +525,31 @@ impl<N: Nodes<Item = T> + Batches, T: Drop> Subscription<N, T> {
         ensures pumped { SomePumped N.Machine N.Nodes.own (O.meaning ops.now) id (λ n. n + left.new ≡ left.old) self.old out.old self.new out.new }
         ensures queue { self.new.queue ≡ [] }
     {
-        let before = *left;
         let mut batch = Batch::new(alloc);
-        'batches: while self.fetch_batch(alloc, ops, id, left, out, &mut batch) {}
-        singles_after(*left < before)
+        let mut came = false;
+        'batches: loop {
+            if self.fetch_batch(alloc, ops, id, left, out, &mut batch) {
+                came = true;
+            } else if !self.make_ahead(alloc, ops, id, left) {
+                return singles_after(came, self.part.waiting());
+            }
+        }
+    }
+
+    /// Makes a move on the way down to the items, so that many may come at once.
+    fn make_ahead<O: Ops<Item = T>>(
+        &mut self,
+        alloc: Global,
+        ops: &O,
+        id: SubId,
+        left: &mut u32,
+    ) -> bool
+        requires { self.old.queue ≡ [] }
+        ensures pumped { (o : List (SubIdSpec × SignalSpec T)) → (n : ℕ) × (n + left.new ≡ left.old) × IsPumped N.Machine N.Nodes.own (O.meaning ops.now) id n self.old o self.new o }
+        ensures queue { self.new.queue ≡ [] }
+        ensures some { result ≡ true → left.new < left.old }
+    {
+        self.part.make_ahead(alloc, ops, left)
     }
 
     /// Pulls many items at once through the part and hands them to the subscriber.
@@ -637,9 +660,15 @@ impl<N: Nodes<Item = T> + Batches, T: Drop> Subscription<N, T> {
     }
 }
 
-/// How many items more than one are pulled one by one, after some came many at once, or none did.
-fn singles_after(some: bool) -> u32 {
-    if some { 0 } else { SINGLES }
+/// How many items more than one are pulled one by one: none after some came many at once, else as many as wait in a queue on the way.
+fn singles_after(came: bool, waiting: u64) -> u32 {
+    if came {
+        return 0;
+    }
+    match u32::try_from(waiting) {
+        Ok(0) | Err(_) => SINGLES,
+        Ok(some) => some - 1,
+    }
 }
 
 /// What comes out of a queue, and then the rest.

@@ -1,7 +1,7 @@
 //! Choices kept as runs.
 
-ghost use Rattle.std.specs.Prelude.{◌≡◌, [], ◌∷◌, ◌++◌, true, OnOk, OnErr, IfOk, IsOk};
-ghost use Rattle.rsx_values.specs.Record.{written, times, joins_last, IsRuns};
+ghost use Rattle.std.specs.Prelude.{◌≡◌, ◌≤◌, [], ◌∷◌, ◌++◌, true, OnOk, OnErr, IfOk, IsOk};
+ghost use Rattle.rsx_values.specs.Record.{written, times, joins_last, room_of_last, added_to_last, IsRuns};
 
 use rsx_types::{Choices, NoMemory};
 use std::alloc::Global;
@@ -81,6 +81,35 @@ impl Record {
         }
         self.runs.push(Run { input, count: 1 })?;
         Ok(())
+    }
+
+    /// How many choices of this input can be added as more of the last run, which takes no memory.
+    #[tactic(auto, using(crate::proofs::LastRuns::last_room))]
+    pub fn room_of_last(&self, input: u64) -> u64
+        ensures { result ≡ room_of_last self.now input }
+    {
+        match self.runs.last() {
+            Some(last) => {
+                if last.input == input {
+                    u64::MAX - last.count
+                } else {
+                    0
+                }
+            }
+            None => 0,
+        }
+    }
+
+    /// Adds so many choices of this input behind the others, each one more of the last run ([`Record::room_of_last`]).
+    pub fn push_times(&mut self, input: u64, count: u64)
+        requires { count ≤ room_of_last self.old input }
+        ensures runs { self.new ≡ added_to_last self.old count }
+        ensures choices { written self.new ≡ written self.old ++ times count input }
+    {
+        if count > 0 {
+            let at = self.runs.len() - 1;
+            self.runs[at].count += count;
+        }
     }
 
     /// The choices one by one.
