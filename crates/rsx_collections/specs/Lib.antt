@@ -1,2 +1,3 @@
 -- Definitions that contracts cite.
+pub mod Keys
 pub mod Signals

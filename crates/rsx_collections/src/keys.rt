@@ -1,13 +1,13 @@
-//! The keys that `distinct` has seen.
+//! Keys that came, each once.
 
-ghost use Rattle.std.specs.Prelude.{◌≡◌, [], ◌++◌, nat_eq, length, IfOk, OnOk, OnErr};
+ghost use Rattle.std.specs.Prelude.{◌≡◌, [], ◌++◌, nat_eq, length, slice_get, is_some, Some, IfOk, IfSome, OnOk, OnErr};
 ghost use Rattle.std.specs.Option.{option_to_list, IfNone};
 ghost use Rattle.std.specs.Set.{is_member};
-ghost use Rattle.indexmap.specs.IndexSet.{insert_key};
+ghost use Rattle.rsx_collections.specs.Keys.{noted};
 
-use indexmap::IndexSet;
 use rsx_types::NoMemory;
 use std::alloc::Global;
+use std::collections::HashMap;
 use std::marker::Model;
 
 /// Keys without repetition, in the order in which each came first. Contracts see the list of them.
@@ -17,15 +17,22 @@ use std::marker::Model;
 /// bounded. Who notes keys of strangers permutes them by a secret first, as the function `key` of an `impl Ops` may.
 #[derive(Drop)]
 pub struct Keys {
-    set: IndexSet<u64>,
+    /// The keys, in their order.
+    order: Vec<u64>,
+    /// The place of each key in that order.
+    places: HashMap<u64, usize>,
 }
 
 impl Model for Keys {
-    ghost use Rattle.std.specs.Prelude.{List, ℕ};
+    ghost use Rattle.std.specs.Prelude.{List, ℕ, nat_eq};
+    ghost use Rattle.std.specs.HashMap.{get};
+    ghost use Rattle.rsx_collections.specs.Keys.{HasPlaces};
 
     ghost Value = { List ℕ };
 
-    ghost view = { λ k. k.set.keys };
+    ghost view = { λ k. k.order.items };
+
+    ghost invariant = { λ k. HasPlaces k.order.items (get nat_eq k.places) };
 }
 
 impl Keys {
@@ -34,7 +41,8 @@ impl Keys {
         ensures { result ≡ [] }
     {
         Keys {
-            set: IndexSet::new(alloc),
+            order: Vec::new(alloc),
+            places: HashMap::new(alloc),
         }
     }
 
@@ -45,12 +53,20 @@ impl Keys {
     /// [`NoMemory`] where a growth was refused; then nothing has changed.
     pub fn note(&mut self, key: u64) -> Result<bool, NoMemory>
         ensures known { IfOk result (λ known. known ≡ is_member nat_eq self.old key) }
-        ensures keys { OnOk result (self.new ≡ insert_key nat_eq self.old key) }
+        ensures keys { OnOk result (self.new ≡ noted self.old key) }
         ensures same { OnErr result (self.new ≡ self.old) }
     {
-        match self.set.insert(key) {
-            Ok(new) => Ok(!new),
-            Err(_) => Err(NoMemory),
+        if self.places.contains_key(&key) {
+            return Ok(true);
+        }
+        let place = self.order.len();
+        self.order.push(key)?;
+        match self.places.insert(key, place) {
+            Ok(_) => Ok(false),
+            Err(_) => {
+                let _ = self.order.pop();
+                Err(NoMemory)
+            }
         }
     }
 
@@ -58,15 +74,39 @@ impl Keys {
     pub fn len(&self) -> u64
         ensures { result ≡ length self.now }
     {
-        self.set.len() as u64
+        self.order.len() as u64
     }
 
-    /// Takes the last key, if there is one.
+    /// The keys, in their order.
+    pub fn as_slice(&self) -> &[u64]
+        ensures { result.now ≡ self.now }
+    {
+        self.order.as_slice()
+    }
+
+    /// Whether this key is there.
+    pub fn contains(&self, key: u64) -> bool
+        ensures { result ≡ is_member nat_eq self.now key }
+    {
+        self.places.contains_key(&key)
+    }
+
+    /// The place of this key, counted from 0, if it is there.
+    pub fn place_of(&self, key: u64) -> Option<usize>
+        ensures place { IfSome result (λ i. slice_get self.now i ≡ Some key) }
+        ensures found { is_some result ≡ is_member nat_eq self.now key }
+    {
+        self.places.get(&key).copied()
+    }
+
+    /// Takes the last key, if there is one. Its memory stays.
     pub fn pop(&mut self) -> Option<u64>
         ensures rest { self.old ≡ self.new ++ option_to_list result }
         ensures none { IfNone result (self.old ≡ []) }
     {
-        self.set.pop()
+        let key = self.order.pop()?;
+        let _ = self.places.remove(&key);
+        Some(key)
     }
 
     /// The same keys once more, in the same order.
@@ -77,7 +117,8 @@ impl Keys {
     pub fn copy(&self) -> Result<Keys, NoMemory>
         ensures { IfOk result (λ keys. keys ≡ self.now) }
     {
-        let set = self.set.clone()?;
-        Ok(Keys { set })
+        let order = self.order.clone()?;
+        let places = self.places.clone()?;
+        Ok(Keys { order, places })
     }
 }

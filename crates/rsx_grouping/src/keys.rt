@@ -2,7 +2,7 @@
 
 ghost use Rattle.std.specs.Prelude.{◌≡◌};
 
-use indexmap::IndexSet;
+use rsx_collections::Keys;
 use rsx_types::NoMemory;
 use rsx_values::MOST_KEYS;
 use std::alloc::Global;
@@ -12,7 +12,7 @@ use std::marker::Model;
 /// [`MOST_KEYS`]. Contracts see the list of them.
 #[derive(Drop)]
 pub struct LaneKeys {
-    set: IndexSet<u64>,
+    keys: Keys,
 }
 
 impl Model for LaneKeys {
@@ -20,7 +20,7 @@ impl Model for LaneKeys {
 
     ghost Value = { List ℕ };
 
-    ghost view = { λ k. k.set.keys };
+    ghost view = { λ k. k.keys };
 }
 
 impl LaneKeys {
@@ -33,7 +33,7 @@ impl LaneKeys {
         ensures { result ≡ [] }
     {
         LaneKeys {
-            set: IndexSet::new(alloc),
+            keys: Keys::new(alloc),
         }
     }
 
@@ -41,7 +41,7 @@ impl LaneKeys {
     pub(crate) fn as_slice(&self) -> &[u64]
         ensures { result.now ≡ self.now }
     {
-        self.set.as_slice()
+        self.keys.as_slice()
     }
 
     /// The number of the lane that has this key, if one has it.
@@ -49,14 +49,14 @@ impl LaneKeys {
         ensures lane { IfSome result (λ i. slice_get self.now i ≡ Some key) }
         ensures found { is_some result ≡ is_member nat_eq self.now key }
     {
-        self.set.get_index_of(&key)
+        self.keys.place_of(key)
     }
 
     /// Whether a lane has this key, or may have it as one more: the key after the last of [`MOST_KEYS`] is a fault.
     pub fn has_place(&self, key: u64) -> bool
         ensures { result ≡ has_place self.now key }
     {
-        self.set.len() < MOST_KEYS || self.set.contains(&key)
+        self.keys.as_slice().len() < MOST_KEYS || self.keys.contains(key)
     }
 
     /// Puts a key last, unless it is there.
@@ -67,7 +67,7 @@ impl LaneKeys {
         ensures keys { OnOk result (self.new ≡ see self.old key) }
         ensures same { OnErr result (self.new ≡ self.old) }
     {
-        match self.set.insert(key) {
+        match self.keys.note(key) {
             Ok(_) => Ok(()),
             Err(_) => Err(NoMemory),
         }
@@ -77,6 +77,6 @@ impl LaneKeys {
     pub fn remove_last(&mut self)
         ensures { (ks : List ℕ) (k : ℕ) → self.old ≡ ks ++ k ∷ [] → self.new ≡ ks }
     {
-        let _key = self.set.pop();
+        let _key = self.keys.pop();
     }
 }

@@ -1,11 +1,10 @@
 -- One choice of the rows of latest items.
-use Rattle.std.proofs.Common.{◌≡◌, ℕ, zero, suc, ◌-◌, Bool, true, false, if◌then◌else◌, List, [], ◌∷◌, length, slice_set, Option, Some, None, option_map, refl, ap, sym, ◌∙◌, arith}
+use Rattle.std.proofs.Common.{◌≡◌, ℕ, suc, ◌-◌, true, false, if◌then◌else◌, List, [], ◌∷◌, length, slice_set, Option, Some, None, option_map, refl, ap, sym, ◌∙◌, arith}
 use Rattle.std.specs.Prelude.{option_and_then}
 use Rattle.rsx_types.specs.declared.signal.Cause.{Cause}
-use Rattle.rsx_types.specs.declared.signal.Ending.TheVariants.{Open, Done, Failed}
-use Rattle.rsx_types.specs.declared.signal.Signal.{Signal}
+use Rattle.rsx_types.specs.declared.signal.Ending.TheVariants.{Failed}
 use Rattle.rsx_types.specs.declared.signal.Signal.TheVariants.{Next, Complete, Error}
-use Rattle.rsx_types.specs.Stream.{Stream, ended_by, item_then}
+use Rattle.rsx_types.specs.Stream.{Stream, ended_by}
 use Rattle.rsx_values.specs.Pick.{InputLeft, Taken, next_of, chosen_before, no_more, pick}
 use Rattle.rsx_values.proofs.OneChoice.{next_length}
 use Rattle.rsx_values.specs.Latest.{all_latest, row_first, stops, unless_chosen, walk, combine}

@@ -1,12 +1,12 @@
 -- One item of a loop over a stream value: what is out already, and what the definition of an operator gives from there.
 use Rattle.std.proofs.Common.{◌≡◌, ℕ, ◌+◌, ◌<◌, ◌≤◌, Bool, true, false, not, nat_eq, nat_le, List, [], ◌∷◌, ◌++◌, length, get_or, drop, append_assoc, append-nil, Result, Ok, Err, refl, sym, ap, ◌∙◌, arith}
 use Rattle.std.proofs.lemmas.Bool.Decides.{nat_tests}
-use Rattle.std.proofs.lemmas.List.{at_drop_more, at_drop_all}
+use Rattle.std.proofs.lemmas.List.{at_drop_more}
 use Rattle.std.specs.Set.{is_member}
 use Rattle.std.specs.Prelude.{if◌then◌else◌}
 use Rattle.std.proofs.lemmas.Bool.{not-true, not-false}
 use Rattle.rsx_types.specs.declared.signal.Ending.{Ending}
-use Rattle.rsx_types.specs.declared.signal.Ending.TheVariants.{Open, Done, Failed}
+use Rattle.rsx_types.specs.declared.signal.Ending.TheVariants.{Done}
 use Rattle.rsx_types.specs.Plain.{mapped_items, filtered_items, accumulated_then, scanned_items, last_list, buffered_items, new_key_then, distinct_items}
 use Rattle.rsx_types.specs.Stream.{Stream, ended_by, item_then, items_then, answer_then, kept_then, cut_by}
 

@@ -1,14 +1,11 @@
 -- The slow walk over the taken signals.
-use Rattle.std.proofs.Common.{◌≡◌, ℕ, zero, suc, ◌+◌, ◌-◌, ◌<◌, ◌≤◌, Bool, true, false, nat_eq, if◌then◌else◌, List, [], ◌∷◌, ◌++◌, length, drop, get_or, slice_get, slice_set, append_assoc, append-nil, Option, Some, None, option_map, refl, ap, sym, ◌∙◌, arith}
-use Rattle.std.proofs.lemmas.Bool.Decides.{nat_tests}
+use Rattle.std.proofs.Common.{◌≡◌, ℕ, ◌+◌, ◌-◌, ◌<◌, ◌≤◌, true, false, nat_eq, if◌then◌else◌, List, [], ◌∷◌, ◌++◌, length, drop, get_or, slice_set, append_assoc, append-nil, Option, Some, None, option_map, refl, ap, sym, ◌∙◌}
 use Rattle.std.proofs.lemmas.List.{at_drop_more, at_drop_all}
 use Rattle.rsx_types.proofs.Options.{one_in_front}
 use Rattle.rsx_types.specs.declared.signal.Cause.{Cause}
-use Rattle.rsx_types.specs.declared.signal.Ending.{Ending}
 use Rattle.rsx_types.specs.declared.signal.Ending.TheVariants.{Open, Done, Failed}
-use Rattle.rsx_types.specs.declared.signal.Signal.{Signal}
 use Rattle.rsx_types.specs.declared.signal.Signal.TheVariants.{Next, Complete, Error}
-use Rattle.rsx_types.specs.Stream.{Stream, ended_by, item_then, items_then}
+use Rattle.rsx_types.specs.Stream.{Stream, item_then}
 use Rattle.rsx_values.specs.Pick.{Taken}
 use Rattle.rsx_values.specs.Latest.{all_latest, row_first, stops, behind_first, unless_chosen, walk}
 use Rattle.rsx_values.specs.Evaluated.{items_first}

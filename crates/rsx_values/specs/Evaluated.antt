@@ -1,5 +1,5 @@
 -- How far the slow evaluation of rows of latest items got.
-use Rattle.std.specs.Prelude.{List, ◌++◌, Option, option_map}
+use Rattle.std.specs.Prelude.{List, Option, option_map}
 use Rattle.rsx_types.specs.Stream.{Stream, items_then}
 
 -- items, and then what comes, if anything does

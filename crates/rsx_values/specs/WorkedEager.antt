@@ -1,8 +1,8 @@
 -- Worked cases of the identity whose failure may overtake items.
-use Rattle.std.specs.Prelude.{◌≡◌, ℕ, List, [], ◌∷◌, Some, None}
+use Rattle.std.specs.Prelude.{◌≡◌, ℕ, [], ◌∷◌, Some, None}
 use Rattle.rsx_types.specs.declared.signal.Cause.TheVariants.{User}
 use Rattle.rsx_types.specs.declared.signal.Ending.{Ending}
-use Rattle.rsx_types.specs.declared.signal.Ending.TheVariants.{Open, Done, Failed}
+use Rattle.rsx_types.specs.declared.signal.Ending.TheVariants.{Done, Failed}
 use Rattle.rsx_types.specs.Stream.{Stream}
 use Rattle.rsx_values.specs.Eager.{eager_of}
 

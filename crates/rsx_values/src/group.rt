@@ -5,7 +5,7 @@ ghost use Rattle.rsx_values.specs.Group.{IsKeyed, group_by, group_lane, items_of
 
 use crate::lanes::{chain, merge_lanes};
 use crate::limits::{MOST_KEYS, TOO_MANY_KEYS};
-use indexmap::IndexSet;
+use rsx_collections::Keys;
 use rsx_types::{Cause, Ending, Fault, NoMemory, Ops, Stage, StreamValue};
 use std::alloc::Global;
 
@@ -13,7 +13,7 @@ use std::alloc::Global;
 #[derive(Drop)]
 pub(crate) struct Keyed<T> {
     /// The keys, in the order in which each came first.
-    pub(crate) keys: IndexSet<u64>,
+    pub(crate) keys: Keys,
     /// Each item behind its key.
     pub(crate) items: Vec<(u64, T)>,
     /// The ending of the input, or the fault at which it was cut.
@@ -62,9 +62,9 @@ fn key_each<O: Ops>(
     items: Vec<O::Item>,
     ending: Ending,
 ) -> Result<Keyed<O::Item>, NoMemory>
-    ensures { IfOk result (λ r. IsKeyed (keyed_items ((O.meaning ops.now).keyed f) [] items.items ending) r.keys.keys r.items.items r.ending) }
+    ensures { IfOk result (λ r. IsKeyed (keyed_items ((O.meaning ops.now).keyed f) [] items.items ending) r.keys r.items.items r.ending) }
 {
-    let mut keys: IndexSet<u64> = IndexSet::new(alloc);
+    let mut keys = Keys::new(alloc);
     let mut keyed = Vec::new(alloc);
     for item in items {
         match place(ops, f, &mut keys, &item)? {
@@ -89,18 +89,18 @@ fn key_each<O: Ops>(
 fn place<O: Ops>(
     ops: &O,
     f: u16,
-    keys: &mut IndexSet<u64>,
+    keys: &mut Keys,
     item: &O::Item,
 ) -> Result<Result<u64, u32>, NoMemory>
-    ensures placed { IfOk result (λ r. r ≡ placed keys.old.keys ((O.meaning ops.now).keyed f item.now)) }
-    ensures keys { IfOk result (λ r. keys.new.keys ≡ keys_after keys.old.keys r) }
+    ensures placed { IfOk result (λ r. r ≡ placed keys.old ((O.meaning ops.now).keyed f item.now)) }
+    ensures keys { IfOk result (λ r. keys.new ≡ keys_after keys.old r) }
 {
     match ops.key(f, item) {
         Ok(key) => {
-            if keys.len() >= MOST_KEYS && !keys.contains(&key) {
+            if keys.as_slice().len() >= MOST_KEYS && !keys.contains(key) {
                 return Ok(Err(TOO_MANY_KEYS));
             }
-            keys.insert(key)?;
+            keys.note(key)?;
             Ok(Ok(key))
         }
         Err(Fault::Code(fault)) => Ok(Err(fault)),

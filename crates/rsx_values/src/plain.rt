@@ -4,7 +4,7 @@ ghost use Rattle.std.specs.Prelude.{◌≡◌, ◌⊎◌, ◌≤◌, pos, ◌+�
 ghost use Rattle.rsx_types.specs.Plain.{mapped_items, filtered_items, taken_items, scanned_items, buffered_items, last_list, distinct_items, plain, range_items};
 ghost use Rattle.rsx_types.specs.Stream.{item_then, items_then};
 
-use indexmap::IndexSet;
+use rsx_collections::Keys;
 use rsx_types::{Cause, Ending, Fault, NoMemory, Ops, Stage, StreamValue};
 use std::alloc::Global;
 
@@ -172,12 +172,12 @@ fn distinct_items<O: Ops>(
 ) -> Result<StreamValue<O::Item>, NoMemory>
     ensures { IfOk result (λ v. v ≡ distinct_items ((O.meaning ops.now).keyed f) [] items.items ending) }
 {
-    let mut seen: IndexSet<u64> = IndexSet::new(alloc);
+    let mut seen = Keys::new(alloc);
     let mut out = Vec::new(alloc);
     for x in items {
         match ops.key(f, &x) {
             Ok(key) => {
-                if seen.insert(key)? {
+                if !seen.note(key)? {
                     out.push(x)?;
                 }
             }

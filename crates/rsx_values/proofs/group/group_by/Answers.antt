@@ -10,6 +10,6 @@ returns g c =
     let gs = c.args.stages.now in
     let lanes = c.in_ok-lanes.lanes.items in
     let v = keyed_items (m.keyed c.args.f) [] c.args.input.items c.args.input.ending in
-    let found : IsKeyed v keyed.keys.keys keyed.items.items keyed.ending = search rules in
-    let each : lanes ≡ map (group_lane m gs (record { items = keyed.items.items; ending = keyed.ending })) keyed.keys.keys = search rules in
-    subst (λ w. IfOk c.merge_lanes.result (λ o. o ≡ w)) (groups_are m gs c.args.choices.now v keyed.keys.keys keyed.items.items keyed.ending lanes found each) c.merge_lanes.ensures
+    let found : IsKeyed v keyed.keys keyed.items.items keyed.ending = search rules in
+    let each : lanes ≡ map (group_lane m gs (record { items = keyed.items.items; ending = keyed.ending })) keyed.keys = search rules in
+    subst (λ w. IfOk c.merge_lanes.result (λ o. o ≡ w)) (groups_are m gs c.args.choices.now v keyed.keys keyed.items.items keyed.ending lanes found each) c.merge_lanes.ensures

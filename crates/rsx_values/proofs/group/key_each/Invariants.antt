@@ -7,5 +7,5 @@ use Rattle.rsx_values.proofs.group.key_each.Given as goal
 abbrev pub invariant-loop-item : goal.invariant-loop-item
 invariant-loop-item g l =
     let key = (g.O.Ops.meaning l.ops).keyed l.f in
-    (items_then l.keyed.items (keyed_items key l.keys.keys (into_iter_items l.item-iterator) l.ending) ≡ keyed_items key [] l.fn.items.items l.ending)
-    × (l.keys.keys ≡ first_seen [] l.keyed.items)
+    (items_then l.keyed.items (keyed_items key l.keys (into_iter_items l.item-iterator) l.ending) ≡ keyed_items key [] l.fn.items.items l.ending)
+    × (l.keys ≡ first_seen [] l.keyed.items)

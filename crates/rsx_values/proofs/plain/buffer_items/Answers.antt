@@ -1,4 +1,4 @@
-use Rattle.std.proofs.Common.{◌≡◌, ◌≤◌, ◌<◌, ◌+◌, ◌++◌, ◌∷◌, [], ◌∙◌, ap, sym, length, arith, length-append}
+use Rattle.std.proofs.Common.{◌≤◌, ◌<◌, ◌+◌, ◌++◌, ◌∷◌, [], ◌∙◌, ap, length, arith}
 use Rattle.std.specs.Vec.Iter.{into_iter_items}
 use Rattle.rsx_types.specs.Plain.{buffered_items}
 use Rattle.rsx_values.proofs.Steps.{item_out, none_out, buffered_full, buffered_more}

@@ -7,4 +7,4 @@ use Rattle.rsx_values.proofs.plain.distinct_items.Given as goal
 abbrev pub invariant-loop-x : goal.invariant-loop-x
 invariant-loop-x g l =
     let key = (g.O.Ops.meaning l.ops).keyed l.f in
-    items_then l.out.items (distinct_items key l.seen.keys (into_iter_items l.x-iterator) l.ending) ≡ distinct_items key [] l.fn.items.items l.ending
+    items_then l.out.items (distinct_items key l.seen (into_iter_items l.x-iterator) l.ending) ≡ distinct_items key [] l.fn.items.items l.ending

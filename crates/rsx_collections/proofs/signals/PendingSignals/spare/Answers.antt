@@ -1,5 +1,4 @@
 use Rattle.std.proofs.Common.{rules}
-use Rattle.std.proofs.lemmas.Grind.{common_steps}
 use Rattle.rsx_collections.proofs.signals.PendingSignals.spare.Goals as goal
 
 pub room-requires : goal.room-requires
