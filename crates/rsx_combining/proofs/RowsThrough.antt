@@ -12,12 +12,13 @@ use Rattle.rsx_values.proofs.LastRuns.{room_after, added_twice, written_added}
 use Rattle.rsx_queued.specs.declared.tail.Tail.{Tail}
 use Rattle.rsx_queued.specs.declared.tail.Tail.TheVariants.{Open, Completion, Failure, Taken}
 use Rattle.rsx_queued.specs.declared.input.QueuedInput.{QueuedInput}
+use Rattle.rsx_queued.specs.Input.{input_passed}
 use Rattle.rsx_queued.specs.Held.{is_open, tail_count}
 use Rattle.rsx_queued.specs.Prelude.{still, takes, takes_at, waiting_at, with_signal, without, next_signal, next_signal_at, has_ending, is_empty}
 use Rattle.rsx_queued.proofs.Outputs.{empty_is}
 use Rattle.rsx_combining.specs.Latest.{LatestState, latest_comes_out, latest_waiting, latest_takes, latest_queued, latest_popped, latest_recording, row_given, gives_row, latest_picks, latest_recorded, latest_ended, latest_done, IsLatestCounted, taken_at, after_signal, after_pick}
 use Rattle.rsx_combining.specs.LatestLaws.{picks_any}
-use Rattle.rsx_combining.specs.LatestRows.{is_zero, rows_through, AreRows, last_item, input_passed, passed_at, rows_counted, after_row, after_rows}
+use Rattle.rsx_combining.specs.LatestRows.{is_zero, rows_through, AreRows, last_item, passed_at, rows_counted, after_row, after_rows}
 use Rattle.rsx_combining.proofs.Comes.{with_input, signal_in, signal_counts, row_out, state_is}
 use Rattle.rsx_combining.proofs.Gives.{gives_there, gives_within, row_of_all, set_all}
 use Rattle.rsx_combining.proofs.InPlace.{read_back, set_twice}

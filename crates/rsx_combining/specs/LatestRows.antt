@@ -2,10 +2,9 @@
 use Rattle.std.specs.Prelude.{◌≡◌, ⊤, ℕ, zero, suc, ◌&&◌, Bool, false, nat_eq, nat_le, List, [], ◌∷◌, slice_set, Option, Some, None}
 use Rattle.rsx_sources.specs.Prelude.{Next}
 use Rattle.rsx_sources.specs.declared.machine.Front.TheVariants.{Item}
-use Rattle.rsx_demand.specs.Demand.{saturating_total}
-use Rattle.rsx_prefetch.specs.Queue.{queue}
 use Rattle.rsx_values.specs.Record.{room_of_last, added_to_last}
 use Rattle.rsx_queued.specs.declared.input.QueuedInput.{QueuedInput}
+use Rattle.rsx_queued.specs.Input.{input_passed}
 use Rattle.rsx_queued.specs.Prelude.{is_empty}
 use Rattle.rsx_combining.specs.Latest.{LatestState, latest_takes, latest_queued, gives_row, row_given}
 
@@ -35,10 +34,6 @@ last_item (x ∷ []) = Some x
 last_item (x ∷ y ∷ xs) = last_item (y ∷ xs)
 
 -- ---- what the node is behind them
-
--- an input from which so many items more were taken, none of which is left in it
-abbrev pub input_passed : {T : Type 0} → QueuedInput T → ℕ → QueuedInput T
-input_passed q k = record q { queue = queue q.queue.items q.queue.capacity (saturating_total q.queue.taken k) }
 
 -- the inputs, where so many items went through input i
 abbrev pub passed_at : {T : Type 0} → List (QueuedInput T) → ℕ → ℕ → List (QueuedInput T)

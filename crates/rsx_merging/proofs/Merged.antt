@@ -16,13 +16,14 @@ use Rattle.rsx_values.proofs.LastRuns.{added_twice, room_after, written_added}
 use Rattle.rsx_queued.specs.declared.tail.Tail.{Tail}
 use Rattle.rsx_queued.specs.declared.tail.Tail.TheVariants.{Open, Completion, Failure, Taken}
 use Rattle.rsx_queued.specs.declared.input.QueuedInput.{QueuedInput}
+use Rattle.rsx_queued.specs.Input.{input_passed}
 use Rattle.rsx_queued.specs.declared.output.Output.TheVariants.{Empty}
 use Rattle.rsx_queued.specs.Prelude.{first_held, is_open, unless_taken, still, takes, is_empty, has_ending, is_taken, may_go, may_go_less, next_signal, next_signal_at, takes_at, with_signal, without, Gives}
 use Rattle.rsx_queued.proofs.Changed.{IsPut, is_put}
 use Rattle.rsx_queued.proofs.Outputs.{empty_is}
 use Rattle.rsx_queued.proofs.Queues.{gives_item}
 use Rattle.rsx_merging.specs.declared.merge_node.MergeNode.{MergeNode}
-use Rattle.rsx_merging.specs.Merge.{merge_comes_out, merge_takes, merge_picks, merge_recorded, merge_counted, merge_ended, merge_done, merges_through, input_passed, inputs_passed, merged_more, after_merged, after_all_merged}
+use Rattle.rsx_merging.specs.Merge.{merge_comes_out, merge_takes, merge_picks, merge_recorded, merge_counted, merge_ended, merge_done, merges_through, inputs_passed, merged_more, after_merged, after_all_merged}
 use Rattle.rsx_merging.proofs.Takes.{took, counts_in}
 use Rattle.rsx_merging.proofs.Chosen.{IsPick, IsPickedOut, picked_out}
 

@@ -3,12 +3,11 @@ use Rattle.std.specs.Prelude.{◌≡◌, ℕ, zero, suc, ◌≤◌, ◌^◌, nat
 use Rattle.std.specs.Global.{Vec}
 use Rattle.std.specs.Vec.{with_item}
 use Rattle.rsx_sources.specs.Prelude.{Note, Picks, Signal, Meaning, Stream, Incoming, front_of}
-use Rattle.rsx_demand.specs.Demand.{saturating_total}
 use Rattle.rsx_sources.specs.declared.machine.Front.{Front}
 use Rattle.rsx_sources.specs.declared.machine.Front.TheVariants.{Item}
-use Rattle.rsx_prefetch.specs.Queue.{queue}
 use Rattle.rsx_queued.specs.Prelude.{may_go, takes_at, next_signal_at, credits_at, waiting_at, done_at, are_gone, AreCounted, inputs_left, merge_behind, out_signal, is_empty, is_over, has_ending, IsOut}
 use Rattle.rsx_queued.specs.declared.input.QueuedInput.{QueuedInput}
+use Rattle.rsx_queued.specs.Input.{input_passed}
 use Rattle.rsx_queued.specs.declared.output.Output.{Output}
 use Rattle.rsx_values.specs.Record.{written, room_of_last, added_to_last}
 use Rattle.rsx_merging.specs.declared.merge_node.MergeNode.{MergeNode}
@@ -72,10 +71,6 @@ merge_popped old s new = IsOut old.output s new.output × (old.inputs ≡ new.in
 abbrev pub merges_through : {T : Type 0} → MergeNode T → ℕ → ℕ → Bool
 merges_through n i items =
     is_empty n.output && (merge_takes n i Item && (is_none (next_signal_at (slice_get n.inputs.items i)) && nat_le items (room_of_last n.choices i)))
-
--- an input after so many items more went through it
-abbrev pub input_passed : {T : Type 0} → QueuedInput T → ℕ → QueuedInput T
-input_passed q k = record { queue = queue q.queue.items q.queue.capacity (saturating_total q.queue.taken k); tail = q.tail }
 
 -- the inputs after so many items more went through input i, if it is there
 abbrev pub inputs_passed : {T : Type 0} → Vec (QueuedInput T) → ℕ → Option (QueuedInput T) → ℕ → Vec (QueuedInput T)

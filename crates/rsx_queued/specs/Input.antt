@@ -98,3 +98,7 @@ IsCounted q c = IsCountedBy q.tail q.queue c
 -- the total to be asked of an input
 abbrev pub input_credits : {T : Type 0} → QueuedInput T → ℕ
 input_credits q = credits q.queue.capacity q.queue.taken
+
+-- an input from which so many items more were taken, none of which is left in it
+abbrev pub input_passed : {T : Type 0} → QueuedInput T → ℕ → QueuedInput T
+input_passed q k = record { queue = queue q.queue.items q.queue.capacity (saturating_total q.queue.taken k); tail = q.tail }

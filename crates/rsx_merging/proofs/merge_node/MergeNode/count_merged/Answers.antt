@@ -1,7 +1,7 @@
 use Rattle.std.proofs.Common.{List, ap, ◌∙◌}
 use Rattle.std.specs.Vec.{with_item}
 use Rattle.rsx_values.specs.declared.record.Run.{Run}
-use Rattle.rsx_merging.specs.Merge.{input_passed}
+use Rattle.rsx_queued.specs.Input.{input_passed}
 use Rattle.rsx_merging.proofs.Merged.{can_pass, lent_there, merged_all}
 use Rattle.rsx_merging.proofs.merge_node.MergeNode.count_merged.Goals as goal
 
