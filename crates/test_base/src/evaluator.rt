@@ -1,7 +1,7 @@
-//! The slow evaluator over the demonstration's items: the worked values, and each refusal.
+//! The slow evaluator over the demonstration's items: the worked values, those under choices, and each refusal.
 
 use rsx_demo::{Demo, Val};
-use rsx_model::{BadExpr, Expr, ScratchRefusal, check_expr, leaves_of, nodes_of, scratch};
+use rsx_model::{BadExpr, Expr, ScratchRefusal, nodes_of, scratch};
 use rsx_types::{Choices, NoMemory, Note, Stage, StreamValue};
 use std::alloc::Global;
 use std::test::Fail;
@@ -154,60 +154,6 @@ fn gives_the_worked_values(rt: HostRuntime) -> Result<(), Fail> {
     Ok(())
 }
 
-/// `take 2` over 4 and this number.
-fn taken(alloc: Global, second: i64) -> Result<Expr<Val>, NoMemory> {
-    let items = numbers(alloc, &[4, second])?;
-    plain(alloc, Stage::Take(2), items)
-}
-
-/// Whether an expression is printed as this text.
-fn is_shown(alloc: Global, expr: &Expr<Val>, text: &str) -> Result<bool, NoMemory> {
-    let shown = format!(in alloc; "{expr:?}")?;
-    Ok(shown.as_str() == text)
-}
-
-/// Whether an expression is `take 2` over 4 and this number.
-fn is_taken(alloc: Global, expr: &Expr<Val>, second: i64) -> Result<bool, NoMemory> {
-    let other = taken(alloc, second)?;
-    Ok(*expr == other)
-}
-
-#[test]
-fn expressions_are_compared_and_printed(rt: HostRuntime) -> Result<(), Fail> {
-    let alloc = rt.alloc();
-    let expr = taken(alloc, 1)?;
-    assert!(rt; is_shown(alloc, &expr, "Plain(Take(2), Items([4, 1]))")?);
-    assert!(rt; is_taken(alloc, &expr, 1)?);
-    assert!(rt; !is_taken(alloc, &expr, 2)?);
-    Ok(())
-}
-
-/// Whether an expression is refused as this.
-fn is_bad(expr: &Expr<Val>, kind: BadExpr) -> bool {
-    check_expr(expr, 0) == Err(kind)
-}
-
-/// `filter positive` so many times over a range.
-fn deep(alloc: Global, levels: u32) -> Result<Expr<Val>, NoMemory> {
-    let mut deep = Expr::Range(1, 3);
-    for _ in 0..levels {
-        deep = plain(alloc, Stage::Filter(POSITIVE), deep)?;
-    }
-    Ok(deep)
-}
-
-#[test]
-fn refuses_what_is_too_deep(rt: HostRuntime) -> Result<(), Fail> {
-    let alloc = rt.alloc();
-    let deepest = deep(alloc, 31)?;
-    assert!(rt; nodes_of(&deepest) == 32);
-    assert!(rt; leaves_of(&deepest) == 0);
-    assert!(rt; check_expr(&deepest, 0) == Ok(()));
-    let deeper = plain(alloc, Stage::Take(1), deepest)?;
-    assert!(rt; is_bad(&deeper, BadExpr::Depth));
-    Ok(())
-}
-
 /// Whether an expression has no value with these joins and notes, and the refusal is printed as this text.
 fn is_refused(
     alloc: Global,
@@ -269,7 +215,7 @@ fn eager(alloc: Global) -> Result<Expr<Val>, NoMemory> {
     Ok(Expr::OnEager(0, 4, Box::new(alloc, failing)?))
 }
 
-/// Whether its value under these choices is printed as this text, or the name of the refusal is.
+/// Whether the value of one of these two under these choices is printed as this text, or the name of the refusal is.
 fn is_chosen(
     alloc: Global,
     expr: &Expr<Val>,
@@ -291,8 +237,16 @@ fn is_chosen(
     Ok(shown.as_str() == text)
 }
 
-/// Choices of it, with the text of the value under them.
-const CHOSEN: [(&[u64], &str); 10] = [
+/// `merge` of 1 and 2, and of 3.
+fn merged(alloc: Global) -> Result<Expr<Val>, NoMemory> {
+    let mut inputs = Vec::new(alloc);
+    inputs.push(numbers(alloc, &[1, 2])?)?;
+    inputs.push(numbers(alloc, &[3])?)?;
+    Ok(Expr::Merge(4, inputs))
+}
+
+/// Choices of a `publishOnEager`, with the text of the value under them.
+const EAGER: [(&[u64], &str); 10] = [
     (&[], "[2, 3] Failed(Function(1))"),
     (&[0], "[2, 3] Failed(Function(1))"),
     (&[0, 0], "[2, 3] Failed(Function(1))"),
@@ -305,11 +259,23 @@ const CHOSEN: [(&[u64], &str); 10] = [
     (&[2], "M2"),
 ];
 
+/// Choices of a `merge`. The second input has no third signal, and there is no third input.
+const MERGED: [(&[u64], &str); 4] = [
+    (&[1, 0], "[3, 1, 2] Done"),
+    (&[], "[1, 2, 3] Done"),
+    (&[1, 1, 1], "M2"),
+    (&[2], "M2"),
+];
+
 #[test]
-fn a_failure_overtakes_what_was_not_chosen(rt: HostRuntime) -> Result<(), Fail> {
+fn values_follow_choices(rt: HostRuntime) -> Result<(), Fail> {
     let alloc = rt.alloc();
     let expr = eager(alloc)?;
-    for (choices, text) in &CHOSEN {
+    for (choices, text) in &EAGER {
+        assert!(rt; is_chosen(alloc, &expr, choices, text)?, "{text}");
+    }
+    let expr = merged(alloc)?;
+    for (choices, text) in &MERGED {
         assert!(rt; is_chosen(alloc, &expr, choices, text)?, "{text}");
     }
     Ok(())

@@ -1,63 +1,53 @@
-//! The values that callers hand in and get back, and the texts of faults.
+//! The texts of what callers get back, and the example of a rule table.
 
-use rsx_types::{Choices, Ending, Fault, NoMemory, StreamValue};
+use rsx_demo::{Demo, Val};
+use rsx_rules::example::{Effect, Touch, Turnstile, turn};
+use rsx_subscription::Refusal::{AfterEnd, OutOfTurn, Overrun, Twice};
+use rsx_types::{Ending, Fault, NoMemory, Ops, StreamValue};
 use std::alloc::Global;
+use std::test::Fail;
 
-/// The value of one number with this ending.
-fn value(alloc: Global, number: u64, ending: Ending) -> Result<StreamValue<u64>, NoMemory> {
-    Ok(StreamValue::new(vec![in alloc; number]?, ending))
-}
-
-/// Whether a value is printed as this text.
-fn is_shown(alloc: Global, value: &StreamValue<u64>, text: &str) -> Result<bool, NoMemory> {
-    let shown = format!(in alloc; "{value:?}")?;
-    Ok(shown.as_str() == text)
+/// Whether the completed value of a list in a list is printed as this text, and the list by `{}` as that one.
+fn is_shown(alloc: Global, text: &str, list: &str) -> Result<bool, NoMemory> {
+    let tagged = Demo.tag(alloc, u64::MAX, &Demo.from_i64(alloc, 3)?)?;
+    let whole = Demo.list(alloc, &[Val::Int(5), tagged])?;
+    let as_list = format!(in alloc; "{whole}")?;
+    let value = StreamValue::new(vec![in alloc; whole]?, Ending::Done);
+    let as_value = format!(in alloc; "{value:?}")?;
+    Ok(as_value.as_str() == text && as_list.as_str() == list)
 }
 
 #[test]
-fn choices_give_back_their_list(rt: HostRuntime) -> Result<(), NoMemory> {
-    let alloc = rt.alloc();
-    let choices = Choices::new(vec![in alloc; 4, 0]?);
-    assert!(rt; choices.as_slice() == [4, 0].as_slice());
-    assert!(rt; choices.into_vec().as_slice() == [4, 0].as_slice());
+fn values_have_texts(rt: HostRuntime) -> Result<(), NoMemory> {
+    let text = "StreamValue { items: [[5 [-1 3]]], ending: Done }";
+    assert!(rt; is_shown(rt.alloc(), text, "[5 [-1 3]]")?);
     Ok(())
 }
 
 #[test]
-fn values_give_back_their_parts(rt: HostRuntime) -> Result<(), NoMemory> {
-    let alloc = rt.alloc();
-    let done = value(alloc, 7, Ending::Done)?;
-    assert!(rt; done.items() == [7].as_slice());
-    assert!(rt; done.ending() == Ending::Done);
-    assert!(rt; is_shown(alloc, &done, "StreamValue { items: [7], ending: Done }")?);
-    assert!(rt; done.into_items().as_slice() == [7].as_slice());
+fn faults_have_texts(rt: HostRuntime) -> Result<(), Fail> {
+    let faults = format!(in rt.alloc(); "{}; {}; {NoMemory}", Fault::Code(3), Fault::Memory)?;
+    assert_eq!(rt; faults.as_str(), "fault 3; out of memory; out of memory");
     Ok(())
-}
-
-/// Whether the completed value of 7 is equal to the value of this number with this ending.
-fn is_done_7(alloc: Global, number: u64, ending: Ending) -> Result<bool, NoMemory> {
-    let done = value(alloc, 7, Ending::Done)?;
-    let other = value(alloc, number, ending)?;
-    Ok(done == other)
 }
 
 #[test]
-fn values_are_compared(rt: HostRuntime) -> Result<(), NoMemory> {
-    let alloc = rt.alloc();
-    assert!(rt; is_done_7(alloc, 7, Ending::Done)?);
-    assert!(rt; !is_done_7(alloc, 7, Ending::Open)?);
-    assert!(rt; !is_done_7(alloc, 8, Ending::Done)?);
+fn refusals_are_shown_by_name(rt: HostRuntime) -> Result<(), Fail> {
+    for (refusal, want) in [
+        (OutOfTurn, "S1: the subscription is not open yet"),
+        (Twice, "S2: the subscription was opened before"),
+        (Overrun, "S3: no demand is left for this item"),
+        (AfterEnd, "S4: the subscription has ended"),
+    ] {
+        assert_eq!(rt; format!(in rt.alloc(); "{refusal}")?.as_str(), want);
+    }
     Ok(())
-}
-
-/// Whether the faults are printed as they are meant to be.
-fn are_faults_shown(alloc: Global) -> Result<bool, NoMemory> {
-    let faults = format!(in alloc; "{}; {}; {NoMemory}", Fault::Code(3), Fault::Memory)?;
-    Ok(faults.as_str() == "fault 3; out of memory; out of memory")
 }
 
 #[test]
-fn faults_have_texts(rt: HostRuntime) -> Result<(), NoMemory> {
-    assert!(rt; are_faults_shown(rt.alloc())?);
-    Ok(())
+fn a_turnstile_turns(rt: HostRuntime) {
+    assert_eq!(rt;
+        turn(Turnstile::Paid(1), Touch::Push),
+        (Turnstile::Locked, Effect::Passed)
+    );
 }

@@ -1,13 +1,12 @@
-//! Graphs, as a program calls them: a list of steps with each move, and a list of deliveries that is used again.
+//! A graph that a list of steps is replayed on, each call and each move of which is answered.
 
 use rsx_demo::{Demo, Val};
-use rsx_graph::{Answer, Deliveries, Graph, Refusal, Step, SubscriptionState, replay};
+use rsx_graph::{Answer, Refusal, Step, replay};
 use rsx_model::Expr;
 use rsx_types::{HubId, Move, NoMemory, NodeId, Signal, Stage, SubId, Tree};
 use std::alloc::Global;
 
-// The tests need no facts of what they call, so these functions have no clause. What looks at a graph only borrows it, and
-// what makes one has few ways out, so that little is let go of in many places.
+// The test needs no facts of what it calls, so these functions have no clause.
 
 const SUB: SubId = SubId(0);
 
@@ -63,67 +62,5 @@ fn a_list_of_steps_is_answered(rt: HostRuntime) -> Result<(), NoMemory> {
         Ok((_graph, answers)) => assert!(rt; are_answers(answers.as_slice())),
         Err(_steps) => assert!(rt; false, "the steps came back"),
     }
-    Ok(())
-}
-
-/// Whether two items that are asked for are delivered, and leave the subscription so. Then the list is cleared.
-fn delivers_two(
-    alloc: Global,
-    graph: &mut Graph<Demo>,
-    out: &mut Deliveries<Val>,
-    state: SubscriptionState,
-) -> Result<bool, Refusal> {
-    graph.request(SUB, 2)?;
-    graph.pump(alloc, 100, out)?;
-    let delivered = out.len() == 2 && graph.standing(SUB)? == state;
-    out.clear();
-    Ok(delivered && out.len() == 0)
-}
-
-fn delivers_all(alloc: Global, graph: &mut Graph<Demo>) -> Result<bool, Refusal> {
-    let mut out = Deliveries::new(alloc);
-    graph.subscribe(alloc, &Expr::Range(2, 3))?;
-    let first = delivers_two(alloc, graph, &mut out, SubscriptionState::Open)?;
-    let last = delivers_two(alloc, graph, &mut out, SubscriptionState::Ended)?;
-    Ok(first && last && out.into_vec().is_empty())
-}
-
-fn range_delivers_all(alloc: Global) -> Result<bool, Refusal> {
-    let mut graph = Graph::new(alloc, Demo)?;
-    delivers_all(alloc, &mut graph)
-}
-
-/// `publishOn 1 4 (range 1 5)`.
-fn on_a_worker(alloc: Global) -> Result<Expr<Val>, NoMemory> {
-    let range = Box::new(alloc, Expr::Range(1, 5))?;
-    Ok(Expr::On(1, 4, range))
-}
-
-/// `map double` over it.
-fn over_a_worker(alloc: Global) -> Result<Expr<Val>, NoMemory> {
-    let below = Box::new(alloc, on_a_worker(alloc)?)?;
-    Ok(Expr::Plain(Stage::Map(2), below))
-}
-
-/// The region of a subscription to this.
-fn region(alloc: Global, expr: &Expr<Val>) -> Result<u8, Refusal> {
-    let mut graph = Graph::new(alloc, Demo)?;
-    let sub = graph.subscribe(alloc, expr)?;
-    graph.region(sub)
-}
-
-#[test]
-fn a_subscription_is_in_the_region_of_its_root(rt: HostRuntime) -> Result<(), NoMemory> {
-    let on = on_a_worker(rt.alloc())?;
-    let over = over_a_worker(rt.alloc())?;
-    assert_eq!(rt; region(rt.alloc(), &Expr::Range(1, 5)), Ok(0));
-    assert_eq!(rt; region(rt.alloc(), &on), Ok(1));
-    assert_eq!(rt; region(rt.alloc(), &over), Ok(1));
-    Ok(())
-}
-
-#[test]
-fn a_list_of_deliveries_is_used_again(rt: HostRuntime) -> Result<(), Refusal> {
-    assert!(rt; range_delivers_all(rt.alloc())?);
     Ok(())
 }

@@ -104,7 +104,7 @@ const SCRIPTS: [Row; 11] = [
 
 /// A trace needs its first and its last line, and nothing else stands between two traces but expressions and blank lines. A line
 /// of 4,096 bytes is read inside a trace, and one of 4,097 is not.
-const JUDGED: [Row; 13] = [
+const JUDGED: [Row; 9] = [
     (&[("\n   \n", 1)], 0, "", End::Whole),
     (&[("trace 1\nend", 1)], 43, "", End::Whole),
     (
@@ -113,8 +113,6 @@ const JUDGED: [Row; 13] = [
         "",
         End::Whole,
     ),
-    (&[("trace 1", 1)], 0, "", End::At(2, 1)),
-    (&[("trace 1\nsubscribe 0\nnext 0", 1)], 0, "", End::At(4, 1)),
     (
         &[("trace 1\nend\ntrace 1\n\nend\n", 1)],
         43,
@@ -125,13 +123,6 @@ const JUDGED: [Row; 13] = [
     (
         &[("trace 1\nend\n trace 1\nend\n", 1)],
         43,
-        "",
-        End::At(3, 1),
-    ),
-    (&[("trace 1\nend x\n", 1)], 0, "", End::At(2, 5)),
-    (
-        &[("trace 2\n0 next 0\n16 next 0\nend\n", 1)],
-        0,
         "",
         End::At(3, 1),
     ),

@@ -1,9 +1,8 @@
-//! Expressions that are run and judged.
+//! An expression that is run, where its items find no memory.
 
 use rsx_demo::{Demo, Val};
 use rsx_drive::{VerifyRefusal, verify};
 use rsx_model::Expr;
-use rsx_tck::Verdict;
 use rsx_types::{Fault, NoMemory, Ops};
 use std::alloc::Global;
 
@@ -65,33 +64,9 @@ impl Ops for Scarce {
     ghost lawful = { λ _. demo_lawful };
 }
 
-/// How many lines answer `range 1 5`, and how many of them say that a rule is held.
-fn counted<O: Ops>(alloc: Global, ops: O) -> Result<(usize, usize), VerifyRefusal> {
-    let lines = verify(alloc, ops, &Expr::Range(1, 5))?;
-    let held = lines.iter().filter(|line| line.verdict == Verdict::Held);
-    Ok((lines.len(), held.count()))
-}
-
-/// How many lines on `publishOn 1 4 (range 1 5)` say that a rule is broken.
-fn broken_on_a_worker(alloc: Global) -> Result<usize, VerifyRefusal> {
-    let range = Box::new(alloc, Expr::Range(1, 5))?;
-    let lines = verify(alloc, Demo, &Expr::On(1, 4, range))?;
-    let broken = lines.iter().filter(|line| line.run > 0);
-    Ok(broken.count())
-}
-
-#[test]
-fn signals_of_a_worker_keep_the_rules(rt: HostRuntime) {
-    assert_eq!(rt; broken_on_a_worker(rt.alloc()), Ok(0));
-}
-
-#[test]
-fn an_expression_is_judged(rt: HostRuntime) {
-    assert_eq!(rt; counted(rt.alloc(), Demo), Ok((43, 13)));
-}
-
 /// The items of the range are asked for, so want of memory for them is met.
 #[test]
 fn an_expression_is_run(rt: HostRuntime) {
-    assert_eq!(rt; counted(rt.alloc(), Scarce), Err(VerifyRefusal::NoMemory));
+    let refusal = verify(rt.alloc(), Scarce, &Expr::Range(1, 5)).err();
+    assert_eq!(rt; refusal, Some(VerifyRefusal::NoMemory));
 }

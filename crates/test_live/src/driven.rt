@@ -1,21 +1,20 @@
-//! Graphs that are driven, live and not.
+//! Graphs before they go live, as they do, and once they have come back.
 
 ghost use Rattle.std.specs.Prelude.{IfOk};
 ghost use Rattle.rsx_live.specs.Starts.{IsStarted};
 
 use crate::numbers::Numbers;
 use anyhow::{Result, bail};
+use rsx_demo::Val;
 use rsx_graph::{Deliveries, Graph, Pumped};
 use rsx_live::{LiveGraph, NotStarted, StartedGraph};
 use rsx_model::Expr;
+use rsx_script::parse_expression;
 use rsx_types::{Ops, Signal, SubId};
 use std::alloc::Global;
 
 /// How many workers there are, but for the expressions that tell how many they want. It is enough for all others.
 pub const WORKERS: u8 = 5;
-
-/// How many turns are made while a graph is live.
-const TURNS: u32 = 60;
 
 /// More moves than any graph makes.
 const MOST_MOVES: u32 = 100_000;
@@ -37,15 +36,15 @@ pub enum Extra {
     BadRequest,
 }
 
-/// A graph that came back.
-#[derive(Drop)]
-pub struct Back<O: Ops> {
-    /// The graph.
-    pub graph: Graph<O>,
-    /// How many taps there were.
-    pub taps: usize,
-    /// At how many edges it was cut.
-    pub edges: usize,
+/// The expression that this text is.
+///
+/// # Errors
+/// Where it isn't one.
+pub fn parsed(alloc: Global, text: &str) -> Result<Expr<Val>> {
+    match parse_expression(alloc, text.as_bytes()) {
+        Ok(expr) => Ok(expr),
+        Err(why) => bail!("{text}: {why}"),
+    }
 }
 
 /// A graph with so many subscriptions to this expression, of each of which some items were requested, after some moves. What was
@@ -104,28 +103,6 @@ pub fn finish<O: Ops>(
     Ok(())
 }
 
-/// The graph goes live, is driven in turns, and comes back. What its taps gave is put behind what was received.
-///
-/// # Errors
-/// For want of memory, where there are too few workers, and where a join is refused.
-pub fn live<O: Ops>(
-    alloc: Global,
-    graph: Graph<O>,
-    subs: u32,
-    extra: Extra,
-    numbers: &mut Numbers,
-    received: &mut Log<O::Item>,
-) -> Result<Back<O>> {
-    let mut started = start(alloc, graph)?;
-    let taps = started.tapped();
-    let edges = started.live.cuts();
-    take_turns(alloc, &mut started, subs, extra, numbers, received)?;
-    match started.close() {
-        Ok(graph) => Ok(Back { graph, taps, edges }),
-        Err(_) => bail!("a join is refused"),
-    }
-}
-
 /// The graph goes live.
 ///
 /// # Errors
@@ -148,68 +125,5 @@ pub fn start_with<O: Ops>(alloc: Global, graph: Graph<O>, workers: u8) -> Result
         Err(NotStarted::TooFewWorkers(_)) => bail!("there are too few workers"),
         Err(NotStarted::NoMemory(_)) => bail!("there is no memory"),
         Err(NotStarted::NotJoined) => bail!("a join is refused"),
-    }
-}
-
-/// Makes the turns.
-fn take_turns<O: Ops>(
-    alloc: Global,
-    started: &mut StartedGraph<O>,
-    subs: u32,
-    extra: Extra,
-    numbers: &mut Numbers,
-    received: &mut Log<O::Item>,
-) -> Result<()>
-    requires { IsStarted started.old }
-    ensures { IsStarted started.new }
-{
-    for _ in 0..TURNS {
-        let sub = SubId(numbers.below(subs));
-        if let Some(signal) = take_turn(alloc, started, sub, extra, numbers) {
-            received.push((sub, signal))?;
-        }
-    }
-    Ok(())
-}
-
-/// Pokes a region, takes or requests, or now and then something else. Answers what that gave to the subscription.
-fn take_turn<O: Ops>(
-    alloc: Global,
-    started: &mut StartedGraph<O>,
-    sub: SubId,
-    extra: Extra,
-    numbers: &mut Numbers,
-) -> Option<Signal<O::Item>>
-    requires { IsStarted started.old }
-    ensures { IsStarted started.new }
-{
-    match numbers.below(32) {
-        0 => do_extra(started, sub, extra),
-        1..=5 => started.request(sub, i64::from(numbers.below(3)) + 1),
-        6..=12 => started.take(sub),
-        _ => {
-            let region = u8::try_from(numbers.below(u32::from(WORKERS))).unwrap_or(0);
-            let _ = started.poke(alloc, region, numbers.below(12));
-            None
-        }
-    }
-}
-
-/// Does what is done now and then.
-fn do_extra<O: Ops>(
-    started: &mut StartedGraph<O>,
-    sub: SubId,
-    extra: Extra,
-) -> Option<Signal<O::Item>>
-    requires { IsStarted started.old }
-    ensures { IsStarted started.new }
-{
-    match extra {
-        Extra::Nothing => None,
-        Extra::Cancel => {
-            started.cancel(sub);
-            None
-        }
-        Extra::BadRequest => started.request(sub, 0),
     }
 }

@@ -1,23 +1,19 @@
 #![tactic(auto)]
-//! Graphs go live, are driven in turns that have no pattern, and come back.
+//! Graphs go live, with each of their regions served on a thread of its own, and come back.
 //!
-//! Of each expression, and each seed, a graph is made with one or two subscriptions to it, and some moves are made. Then it goes live: its
-//! trees are cut at their edges that cross, and the pieces are put into the regions of workers. One thread pokes these, takes, requests
-//! and, in some runs, cancels or makes a bad request. Then the graph is closed, and goes on to its end. What each subscriber received
-//! before, while it was live and after, with what the graph still owes, has to be the value of the expression, evaluated from scratch
-//! under what the nodes recorded: right after the close, and at the end. What one received that cancelled or made a bad request has to be
-//! the beginning of that value.
+//! Of each expression a graph is made twice that goes live at once, until all its subscriptions have ended. Then, for each seed, a graph
+//! is made with one or two subscriptions, and some moves are made before it goes live: its trees are cut at their edges that cross, and
+//! the pieces are put into the regions of workers. The calling thread makes calls by chance: it takes, requests and, in some runs, cancels
+//! or makes a bad request. It stops at some moment, and closes the graph. What each subscriber received before, while it was live and
+//! after, with what the graph still owes, has to be the value of the expression, evaluated from scratch under what the nodes recorded:
+//! right after the close, and at the end. What one received that cancelled or made a bad request has to be the beginning of that value.
 //!
-//! It writes a line for each expression: how many runs there were and, in all of them, at how many edges they were cut, how many signals
-//! were received, and how many of these taps gave. Then each expression goes live twice more, with its regions served on threads, until
-//! all subscriptions have ended. Then it does so again for some seeds, as do further expressions with more workers and with fewer: the
-//! calling thread makes calls by chance, stops at some moment, and closes the graph. What came by then is up to the system, so that it is
-//! compared, as above, and not written. The first comparison that differs, and the first join that is refused, end the program with
-//! status 1.
+//! It writes a line for each expression: in how many random runs how many taps there were, and at how many edges they were cut. What came
+//! by the close is up to the system, and isn't written. Further expressions do so with fewer workers and with more. The first comparison
+//! that differs, and the first join that is refused, end the program with status 1.
 //!
 //! `test_live WAY COUNT` does none of that: it sends so many numbers through a graph, and prints how many items came and their sum, and no
-//! time, so that `bench/live.sh` counts its instructions. WAY is `queue`, where the graph is pumped, or `link`, where it is live. With one
-//! word, as `test_live threads`, only the runs on threads are made.
+//! time, so that `bench/live.sh` counts its instructions. WAY is `queue`, where the graph is pumped, or `link`, where it is live.
 
 mod beside;
 mod chance;
@@ -28,14 +24,12 @@ mod serving;
 mod stopped;
 mod threaded;
 mod timed;
-mod trial;
 
 use crate::driven::WORKERS;
 use crate::serving::Requests;
-use crate::stopped::{SEEDS, try_stopped};
+use crate::stopped::{SEEDS, Tried, try_stopped};
 use crate::threaded::try_on_threads;
 use crate::timed::{lived, pumped};
-use crate::trial::{Tried, try_refused, try_seeds};
 use anyhow::Result;
 use std::env;
 use std::sync::Wait;
@@ -81,49 +75,23 @@ const BY_WORKERS: [(u8, &'static str); 3] = [
     ),
 ];
 
-/// Tries all expressions, and writes a line for each.
-fn try_all(rt: &(impl Print + AllocGlobal)) -> Result<()> {
-    for text in &EXPRESSIONS {
-        let Tried {
-            runs,
-            taps,
-            edges,
-            given,
-            signals,
-        } = try_seeds(rt.alloc(), text)?;
-        println!(rt;
-            "{text}: {runs} runs, cut at {edges} edges, {given} of {signals} signals by {taps} taps, equal"
-        )?;
-    }
-    let text = EXPRESSIONS[0];
-    let signals = try_refused(rt.alloc(), text)?;
-    println!(rt; "{text}: refused with too few workers, {signals} signals, equal")?;
-    Ok(())
-}
-
-/// Tries all expressions on threads, with items requested in two ways, and writes a line for each.
-fn try_all_on_threads<R: Print + AllocGlobal + Threads + Wait + Sync + Clock>(
-    rt: &R,
-) -> Result<()> {
+/// Tries all expressions, with items requested in two ways and then by chance, and writes a line for each.
+fn try_all<R: Print + AllocGlobal + Threads + Wait + Sync + Clock>(rt: &R) -> Result<()> {
     for text in &EXPRESSIONS {
         let by_one_and_two = Requests::InTurns([(0, 1), (1, 2)]);
         try_on_threads(rt, rt.alloc(), text, by_one_and_two)?;
         let by_five_and_three = Requests::InTurns([(1, 5), (0, 3)]);
         try_on_threads(rt, rt.alloc(), text, by_five_and_three)?;
-        println!(rt; "{text}: twice on threads, equal")?;
-    }
-    Ok(())
-}
-
-/// Makes runs on threads that stop at some moment, and writes a line for each expression.
-fn try_all_stopped<R: Print + AllocGlobal + Threads + Wait + Sync + Clock>(rt: &R) -> Result<()> {
-    for text in &EXPRESSIONS {
-        try_stopped(rt, rt.alloc(), text, WORKERS)?;
-        println!(rt; "{text}: {SEEDS} random runs on threads, equal")?;
+        let Tried { taps, edges } = try_stopped(rt, rt.alloc(), text, WORKERS)?;
+        println!(rt;
+            "{text}: twice on threads, and {SEEDS} random runs, cut at {edges} edges, with {taps} taps, equal"
+        )?;
     }
     for (workers, text) in BY_WORKERS {
-        try_stopped(rt, rt.alloc(), text, workers)?;
-        println!(rt; "{text}: {SEEDS} random runs on {workers} threads, equal")?;
+        let Tried { taps, edges } = try_stopped(rt, rt.alloc(), text, workers)?;
+        println!(rt;
+            "{text}: {SEEDS} random runs on {workers} threads, cut at {edges} edges, with {taps} taps, equal"
+        )?;
     }
     Ok(())
 }
@@ -143,14 +111,6 @@ fn main(rt: HostRuntime) -> Result<()> {
     let mut words = env::args(&rt)?.skip(1);
     match (words.next(), words.next()) {
         (Some(way), Some(count)) => time(&rt, way.as_str(), count.as_str()),
-        (Some(_), None) => {
-            try_all_on_threads(&rt)?;
-            try_all_stopped(&rt)
-        }
-        _ => {
-            try_all(&rt)?;
-            try_all_on_threads(&rt)?;
-            try_all_stopped(&rt)
-        }
+        _ => try_all(&rt),
     }
 }

@@ -7,10 +7,9 @@
 
 use crate::chance::Chance;
 use crate::compared::compare;
-use crate::driven::{Extra, begin, finish, start_with};
+use crate::driven::{Extra, begin, finish, parsed, start_with};
 use crate::numbers::Numbers;
 use crate::serving::{Requests, serve};
-use crate::trial::parsed;
 use anyhow::{Result, bail};
 use rsx_demo::{Demo, Val};
 use rsx_model::Expr;
@@ -25,6 +24,15 @@ pub const SEEDS: u32 = 20;
 /// A thread of its own cancels before so many microseconds have passed.
 const LONGEST_WAIT: u32 = 1_500;
 
+/// What was tried, in all runs.
+#[derive(Clone, Copy, Debug)]
+pub struct Tried {
+    /// How many taps there were.
+    pub taps: usize,
+    /// At how many edges the graphs were cut.
+    pub edges: usize,
+}
+
 /// Makes a run of an expression on so many threads for each seed.
 ///
 /// # Errors
@@ -34,14 +42,19 @@ pub fn try_stopped<R: Threads + Wait + Sync + Clock>(
     alloc: Global,
     text: &str,
     workers: u8,
-) -> Result<()> {
+) -> Result<Tried> {
     let expr = parsed(alloc, text)?;
+    let mut tried = Tried { taps: 0, edges: 0 };
     for seed in 1..=SEEDS {
-        if let Err(why) = try_once(rt, alloc, &expr, workers, seed) {
-            bail!("{text}: on {workers} threads, seed {seed}: {why}")
+        match try_once(rt, alloc, &expr, workers, seed) {
+            Ok(run) => {
+                tried.taps = tried.taps.saturating_add(run.taps);
+                tried.edges = tried.edges.saturating_add(run.edges);
+            }
+            Err(why) => bail!("{text}: on {workers} threads, seed {seed}: {why}"),
         }
     }
-    Ok(())
+    Ok(tried)
 }
 
 /// Makes one run, as this seed tells.
@@ -51,13 +64,17 @@ fn try_once<R: Threads + Wait + Sync + Clock>(
     expr: &Expr<Val>,
     workers: u8,
     seed: u32,
-) -> Result<()> {
+) -> Result<Tried> {
     let mut numbers = Numbers::new(seed);
     let subs = numbers.below(2).saturating_add(1);
     let mut received = Vec::new(alloc);
     let graph = begin(alloc, Demo, expr, subs, &mut numbers, &mut received)?;
     let requests = requests_of(numbers, subs, seed);
     let started = start_with(alloc, graph, workers)?;
+    let tried = Tried {
+        taps: started.tapped(),
+        edges: started.live.cuts(),
+    };
     let (started, given) = serve(rt, alloc, started, requests)?;
     let Ok(mut graph) = started.close() else {
         bail!("a join is refused")
@@ -67,7 +84,8 @@ fn try_once<R: Threads + Wait + Sync + Clock>(
     }
     compare(alloc, &graph, expr, subs, &received, false)?;
     finish(alloc, &mut graph, subs, &mut received)?;
-    compare(alloc, &graph, expr, subs, &received, true)
+    compare(alloc, &graph, expr, subs, &received, true)?;
+    Ok(tried)
 }
 
 /// What is requested with so many subscriptions, as this seed tells.

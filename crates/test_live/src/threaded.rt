@@ -1,12 +1,11 @@
 //! Graphs that go live with each region served on a thread of its own.
 //!
 //! A graph with two subscriptions goes live at once, and the calling thread requests and takes until both have ended. Which worker moves
-//! when is up to the system. What the subscribers receive isn't, but for what the last four expressions choose.
+//! when is up to the system. What the subscribers receive isn't, but for what the last nine expressions choose.
 
 use crate::compared::compare;
-use crate::driven::{Log, start};
+use crate::driven::{Log, parsed, start};
 use crate::serving::{Requests, serve};
-use crate::trial::parsed;
 use anyhow::{Result, bail};
 use rsx_demo::{Demo, Val};
 use rsx_graph::Graph;

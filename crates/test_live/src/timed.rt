@@ -6,11 +6,11 @@
 
 ghost use Rattle.rsx_live.specs.Starts.{IsStarted};
 
+use crate::driven::{parsed, start_with};
 use anyhow::{Result, bail};
 use rsx_demo::{Demo, Val};
 use rsx_graph::{Deliveries, Graph, Pumped};
-use rsx_live::{LiveGraph, StartedGraph};
-use rsx_script::parse_expression;
+use rsx_live::StartedGraph;
 use rsx_types::{Signal, SubId};
 use std::alloc::Global;
 
@@ -31,6 +31,15 @@ pub struct Sum {
 }
 
 impl Sum {
+    /// Nothing came.
+    fn new() -> Sum {
+        Sum {
+            items: 0,
+            sum: 0,
+            ended: false,
+        }
+    }
+
     /// Takes in what was delivered.
     fn add_all(&mut self, deliveries: &Deliveries<Val>) {
         for (_, signal) in deliveries.as_slice() {
@@ -54,16 +63,10 @@ impl Sum {
 /// A graph with a subscription that has asked for all.
 fn subscribed(alloc: Global, count: u64) -> Result<(Graph<Demo>, SubId)> {
     let text = format!(in alloc; "(publishOn 1 64 (range 1 {count}))")?;
-    let Ok(expr) = parse_expression(alloc, text.as_bytes()) else {
-        bail!("it is no expression")
-    };
-    let Ok(mut graph) = Graph::new(alloc, Demo) else {
-        bail!("refused")
-    };
-    let Ok(sub) = graph.subscribe(alloc, &expr) else {
-        bail!("refused")
-    };
-    let _ = graph.request(sub, ALL);
+    let expr = parsed(alloc, text.as_str())?;
+    let mut graph = Graph::new(alloc, Demo)?;
+    let sub = graph.subscribe(alloc, &expr)?;
+    graph.request(sub, ALL)?;
     Ok((graph, sub))
 }
 
@@ -71,11 +74,7 @@ fn subscribed(alloc: Global, count: u64) -> Result<(Graph<Demo>, SubId)> {
 pub fn pumped(alloc: Global, count: u64) -> Result<Sum> {
     let (mut graph, _) = subscribed(alloc, count)?;
     let mut out = Deliveries::new(alloc);
-    let mut sum = Sum {
-        items: 0,
-        sum: 0,
-        ended: false,
-    };
+    let mut sum = Sum::new();
     for _ in 0..u64::MAX {
         let pumped = graph.pump(alloc, BUDGET, &mut out);
         sum.add_all(&out);
@@ -91,14 +90,8 @@ pub fn pumped(alloc: Global, count: u64) -> Result<Sum> {
 /// What comes where the graph is live, and its regions are poked in turns. The lower one comes first.
 pub fn lived(alloc: Global, count: u64) -> Result<Sum> {
     let (graph, sub) = subscribed(alloc, count)?;
-    let Ok(mut started) = LiveGraph::go_live(alloc, graph, 2) else {
-        bail!("it didn't go live")
-    };
-    let mut sum = Sum {
-        items: 0,
-        sum: 0,
-        ended: false,
-    };
+    let mut started = start_with(alloc, graph, 2)?;
+    let mut sum = Sum::new();
     for _ in 0..u64::MAX {
         if sum.ended {
             break;

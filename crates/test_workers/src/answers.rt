@@ -15,34 +15,10 @@ impl Kept<u64> for Count {
 
 #[derive(Clone, Copy, PartialEq, Debug)]
 enum Answer {
-    Pass,
     Noted,
     Missed,
     Gone,
     More,
-}
-
-// Enters and leaves with no mark, then marks and leaves.
-fn leave_twice(gate: &Gate<Count, u64>, seat: &mut Seat<Count, u64>) -> (Answer, Answer, Answer)
-    requires { IsSeatOf gate.now seat.old }
-    ensures { IsSeatOf gate.now seat.new }
-{
-    let pass = match Pass::enter(seat, gate) {
-        Ok(pass) => pass,
-        Err(Noted) => return (Answer::Noted, Answer::Noted, Answer::Noted),
-    };
-    let mut pass = match pass.leave(gate) {
-        Left::Missed(pass) => pass,
-        Left::Gone => return (Answer::Pass, Answer::Gone, Answer::Gone),
-    };
-    pass.mark(gate);
-    match pass.leave(gate) {
-        Left::Missed(pass) => {
-            let More = pass.give_up(gate);
-            (Answer::Pass, Answer::Missed, Answer::Missed)
-        }
-        Left::Gone => (Answer::Pass, Answer::Missed, Answer::Gone),
-    }
 }
 
 // Enters, adds one, and gives up.
@@ -100,18 +76,10 @@ fn answers_in_a_row(rt: HostRuntime) -> Result<(), Fail> {
     };
     let mut b = gate.split(&mut a);
     assert_eq!(rt;
-        leave_twice(&gate, &mut a),
-        (Answer::Pass, Answer::Missed, Answer::Gone)
-    );
-    assert_eq!(rt;
         note_between(&gate, &mut a, &mut b),
         (Answer::Noted, Answer::Missed, Answer::Gone)
     );
     assert_eq!(rt; add_one(&gate, &mut b), Answer::More);
-    assert_eq!(rt;
-        leave_twice(&gate, &mut b),
-        (Answer::Pass, Answer::Missed, Answer::Gone)
-    );
     gate.join(&mut a, b);
     match gate.close(a) {
         Ok(count) => assert_eq!(rt; count.0, 8),

@@ -3,7 +3,6 @@
 ghost use Rattle.std.specs.Prelude.{◌≡◌};
 ghost use Rattle.rsx_link.specs.Ends.{IsCancelSeatOf, IsDownOf, IsUpOf};
 
-use rsx_demand::Demand;
 use rsx_link::{CancelSeat, Down, Found, Link, Up};
 use rsx_types::{Cause, Signal};
 use std::test::Fail;
@@ -104,36 +103,5 @@ fn one_thread(rt: HostRuntime) -> Result<(), Fail> {
         (ending, none, is_empty),
         (Some(Signal::Complete), None, true)
     );
-    Ok(())
-}
-
-// The number of the item that stands in front of the queue; none for an ending, and where no signal was seen.
-fn shown(down: &Down<u64>) -> Option<u64> {
-    match down.front() {
-        Some(Signal::Next(number)) => Some(*number),
-        Some(Signal::Complete | Signal::Error(_)) | None => None,
-    }
-}
-
-#[test]
-fn opened(rt: HostRuntime) -> Result<(), Fail> {
-    let used = Demand { asked: 5, sent: 3 };
-    let (link, mut up, mut down, cancel) = Link::open(rt.alloc(), 2, used)?;
-    let before = (up.room(), down.asked(), down.taken());
-    let free = (up.has_room(&link), down.is_empty(&link), shown(&down));
-    let sent = sends_three(&link, &mut up);
-    let full = (up.has_room(&link), down.is_empty(&link), shown(&down));
-    let first = item(down.take(&link));
-    let partly = (up.has_room(&link), down.is_empty(&link), shown(&down));
-    let looked = up.look(&link);
-    let counts = (up.room(), down.asked(), down.taken());
-    let closed = link.close(up, down, cancel);
-    let words = (closed.asked, closed.cancelled, closed.refused);
-    assert_eq!(rt; (before, counts), ((2, 5, 3), (0, 5, 4)));
-    assert_eq!(rt; (free, sent), ((true, true, None), 2));
-    assert_eq!(rt; (full, first), ((false, false, Some(1)), Some(1)));
-    assert_eq!(rt; partly, (true, false, Some(2)));
-    assert_eq!(rt; looked, found(5, false, false));
-    assert_eq!(rt; (words, closed.remaining.len()), ((5, false, false), 1));
     Ok(())
 }

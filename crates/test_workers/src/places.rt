@@ -15,14 +15,6 @@ use std::thread::Threads;
 
 type Row = Places<u64, u64>;
 
-// What is left of a place: the number of the ends, or the part.
-#[derive(Clone, Copy, PartialEq, Debug)]
-enum Left {
-    Free(u64),
-    Offered(u64),
-    Taken,
-}
-
 // The ends of that many links. Over the edge of each as many items went before as its number says, which tells the ends apart.
 fn ends(alloc: Global, count: u64) -> Result<Vec<Ends<u64>>, NoMemory>
     requires { count < 2 ^ 32 }
@@ -38,14 +30,6 @@ fn ends(alloc: Global, count: u64) -> Result<Vec<Ends<u64>>, NoMemory>
         all.push_reserved(Ends { down, cancel });
     }
     Ok(all)
-}
-
-fn left_of(place: Place<Ends<u64>, u64>) -> Left {
-    match place {
-        Place::Free(ends) => Left::Free(ends.down.asked()),
-        Place::Offered(part) => Left::Offered(part),
-        Place::Taken => Left::Taken,
-    }
 }
 
 // The place's number, where the ends are those that were made for it; else the part.
@@ -104,63 +88,6 @@ fn collect_all(
         }
     }
     (collector, sum)
-}
-
-#[test]
-fn one_thread_fills_them(rt: HostRuntime) -> Result<(), Fail> {
-    let (places, mut collector, mut seat) = match Places::new(rt.alloc(), ends(rt.alloc(), 3)?) {
-        Ok(made) => made,
-        Err(back) => {
-            assert_eq!(rt; back.len(), 3);
-            return Err(Fail::from("memory"));
-        }
-    };
-    let mut other = places.split(&mut seat);
-    let nothing = places.collect(&mut collector).is_none();
-    let first = offers(&places, &mut seat, 10);
-    let second = offers(&places, &mut other, 11);
-    let collected = places.collect(&mut collector);
-    let third = offers(&places, &mut seat, 12);
-    let full = offers(&places, &mut seat, 13);
-    let again = offers(&places, &mut seat, 14);
-    let full_too = offers(&places, &mut other, 15);
-    places.join(&mut seat, other);
-    let mut left = places.close(collector, seat);
-    let last = left.pop().map(left_of);
-    let middle = left.pop().map(left_of);
-    let start = left.pop().map(left_of);
-    assert_eq!(rt; nothing, true);
-    assert_eq!(rt; (first, second, third), (Ok(0), Ok(1), Ok(2)));
-    assert_eq!(rt; collected, Some((0, 10)));
-    assert_eq!(rt; (full, again, full_too), (Err(13), Err(14), Err(15)));
-    assert_eq!(rt;
-        (start, middle),
-        (Some(Left::Taken), Some(Left::Offered(11)))
-    );
-    assert_eq!(rt; last, Some(Left::Offered(12)));
-    assert_eq!(rt; left.is_empty(), true);
-    Ok(())
-}
-
-#[test]
-fn what_nobody_offered_at_comes_back(rt: HostRuntime) -> Result<(), Fail> {
-    let (places, collector, mut seat) = match Places::new(rt.alloc(), ends(rt.alloc(), 2)?) {
-        Ok(made) => made,
-        Err(back) => {
-            assert_eq!(rt; back.len(), 2);
-            return Err(Fail::from("memory"));
-        }
-    };
-    let first = offers(&places, &mut seat, 7);
-    let mut left = places.close(collector, seat);
-    let last = left.pop().map(left_of);
-    let start = left.pop().map(left_of);
-    assert_eq!(rt; first, Ok(0));
-    assert_eq!(rt;
-        (start, last),
-        (Some(Left::Offered(7)), Some(Left::Free(1)))
-    );
-    Ok(())
 }
 
 // Two threads offer that many parts each at 64 places, and a third collects as many parts as there are places. Answers how many
@@ -223,7 +150,7 @@ fn two_threads_offer(rt: HostRuntime) -> Result<(), Fail> {
             assert_eq!(rt; sum, 10_592);
         }
         for place in left {
-            assert_eq!(rt; left_of(place), Left::Taken);
+            assert!(rt; matches!(place, Place::Taken));
         }
     }
     Ok(())

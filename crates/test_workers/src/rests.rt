@@ -18,38 +18,23 @@ fn rest_twice<R: Threads + Wait + Sync>(
     (roused, stopped)
 }
 
-// What a worker's rest answered that another worker roused before it.
-fn rouse_before<R: Wait>(rt: &R, first: &mut ParkRest, second: &mut ParkRest) -> Rested {
-    first.rouse(2);
-    second.rest(rt)
-}
-
-fn two_rests(alloc: Global) -> Option<(Rouser, ParkRest, ParkRest)> {
-    let (rouser, mut rests) = ParkRest::all(alloc, 2).ok()?;
-    let second = rests.pop()?;
-    let first = rests.pop()?;
-    Some((rouser, first, second))
+// What rouses a worker, and its rest.
+fn one_rest(alloc: Global) -> Option<(Rouser, ParkRest)> {
+    let (rouser, mut rests) = ParkRest::all(alloc, 1).ok()?;
+    let rest = rests.pop()?;
+    Some((rouser, rest))
 }
 
 #[test]
 fn a_rest_ends_where_another_thread_rouses_or_stops_it(rt: HostRuntime) -> Result<(), Fail> {
     for _ in 0..100 {
-        let Some((rouser, first, _second)) = two_rests(rt.alloc()) else {
+        let Some((rouser, rest)) = one_rest(rt.alloc()) else {
             return Err(Fail::from("memory"));
         };
         assert_eq!(rt;
-            rest_twice(&rt, rouser, first),
+            rest_twice(&rt, rouser, rest),
             (Rested::Again, Rested::Stop)
         );
     }
-    Ok(())
-}
-
-#[test]
-fn a_worker_rouses_another_before_its_rest(rt: HostRuntime) -> Result<(), Fail> {
-    let Some((_rouser, mut first, mut second)) = two_rests(rt.alloc()) else {
-        return Err(Fail::from("memory"));
-    };
-    assert_eq!(rt; rouse_before(&rt, &mut first, &mut second), Rested::Again);
     Ok(())
 }

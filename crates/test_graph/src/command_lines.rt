@@ -1,41 +1,10 @@
-//! The texts of faults, and command lines.
+//! Command lines.
 
 use clap::error::ErrorKind;
 use rsx_drive::command_line_of;
-use rsx_script::{AppFault, LineRefusal, Mode, Subcommand};
+use rsx_script::{Mode, Subcommand};
 use std::alloc::Global;
 use std::test::Fail;
-
-/// The faults, with the status and the line of each.
-const FAULTS: [(AppFault, u8, &str); 5] = [
-    (
-        AppFault::Line(3, LineRefusal::Syntax(11)),
-        1,
-        "rsx: line 3: syntax at column 11",
-    ),
-    (
-        AppFault::Line(1, LineRefusal::UnknownName(16)),
-        1,
-        "rsx: line 1: unknown name at column 16",
-    ),
-    (
-        AppFault::Line(1, LineRefusal::TooLong),
-        1,
-        "rsx: line 1: longer than 4096 bytes",
-    ),
-    (AppFault::Io, 3, "rsx: read or write fault"),
-    (AppFault::Memory, 4, "rsx: out of memory"),
-];
-
-/// The line and the status of each fault.
-#[test]
-fn texts(rt: HostRuntime) -> Result<(), Fail> {
-    for (fault, status, text) in &FAULTS {
-        let line = fault.text(rt.alloc())?;
-        assert_eq!(rt; (fault.status(), line.as_str()), (*status, *text));
-    }
-    Ok(())
-}
 
 /// Command lines, with their subcommands or what `clap` finds wrong.
 const COMMAND_LINES: [(&str, Result<Subcommand, ErrorKind>); 19] = [

@@ -2,7 +2,7 @@ use Rattle.std.proofs.Common.{◌≡◌, ◌≤◌, ◌++◌, List, [], ◌∷�
 use Rattle.std.specs.List.{AllZip}
 use Rattle.rsx_gate.specs.Machine.{all_parts}
 use Rattle.rsx_gate.specs.Seats.{IsSeatOf}
-use Rattle.test_workers.proofs.passes.one_region.Goals as goal
+use Rattle.test_workers.proofs.regions.one_region.Goals as goal
 
 pub returns-in-Ok-clause-first : goal.returns-in-Ok-clause-first
 returns-in-Ok-clause-first c =

@@ -1,7 +1,7 @@
 use Rattle.std.proofs.Common.{◌∙◌, ap, length, map, sym}
 use Rattle.std.proofs.lemmas.List.{with_items_is}
-use Rattle.test_cuts.proofs.Names.{as_many, names_kept}
-use Rattle.test_cuts.proofs.trial.cut_and_joined.Goals as goal
+use Rattle.test_scripts.proofs.Names.{as_many, names_kept}
+use Rattle.test_scripts.proofs.trial.cut_and_joined.Goals as goal
 
 pub invariant_of-pieces-clause-named : goal.invariant_of-pieces-clause-named
 invariant_of-pieces-clause-named c =
