@@ -1,7 +1,7 @@
-//! A graph that a list of steps is replayed on, each call and each move of which is answered.
+//! A graph that a list of steps is replayed on, each call and each move of which is answered, and the region of a subscription.
 
 use rsx_demo::{Demo, Val};
-use rsx_graph::{Answer, Refusal, Step, replay};
+use rsx_graph::{Answer, Graph, Refusal, Step, replay};
 use rsx_model::Expr;
 use rsx_types::{HubId, Move, NoMemory, NodeId, Signal, Stage, SubId, Tree};
 use std::alloc::Global;
@@ -62,5 +62,25 @@ fn a_list_of_steps_is_answered(rt: HostRuntime) -> Result<(), NoMemory> {
         Ok((_graph, answers)) => assert!(rt; are_answers(answers.as_slice())),
         Err(_steps) => assert!(rt; false, "the steps came back"),
     }
+    Ok(())
+}
+
+/// `publishOn 1 4 (range 1 5)`.
+fn on_a_worker(alloc: Global) -> Result<Expr<Val>, NoMemory> {
+    let range = Box::new(alloc, Expr::Range(1, 5))?;
+    Ok(Expr::On(1, 4, range))
+}
+
+/// The region of a subscription to this.
+fn region(alloc: Global, expr: &Expr<Val>) -> Result<u8, Refusal> {
+    let mut graph = Graph::new(alloc, Demo)?;
+    let sub = graph.subscribe(alloc, expr)?;
+    graph.region(sub)
+}
+
+#[test]
+fn a_subscription_is_in_the_region_of_its_root(rt: HostRuntime) -> Result<(), NoMemory> {
+    let expr = on_a_worker(rt.alloc())?;
+    assert_eq!(rt; region(rt.alloc(), &expr), Ok(1));
     Ok(())
 }

@@ -6,11 +6,15 @@
 #[cfg(test)]
 mod command_lines;
 #[cfg(test)]
+mod delayed;
+#[cfg(test)]
 mod driven;
 #[cfg(test)]
 mod explained;
 #[cfg(test)]
 mod graphs;
+#[cfg(test)]
+mod many;
 #[cfg(test)]
 mod recorded;
 #[cfg(test)]
