@@ -2,17 +2,16 @@
 
 ghost use Rattle.std.specs.Prelude.{◌≡◌};
 
-use rsx_collections::Keys;
 use rsx_types::NoMemory;
 use rsx_values::MOST_KEYS;
 use std::alloc::Global;
 use std::marker::Model;
 
 /// The keys of the lanes, in the order in which each came first: a lane's number is the place of its key. There are at most
-/// [`MOST_KEYS`]. Contracts see the list of them.
+/// [`MOST_KEYS`], so they are looked through one after the other. Contracts see the list of them.
 #[derive(Drop)]
 pub struct LaneKeys {
-    keys: Keys,
+    keys: Vec<u64>,
 }
 
 impl Model for LaneKeys {
@@ -20,7 +19,7 @@ impl Model for LaneKeys {
 
     ghost Value = { List ℕ };
 
-    ghost view = { λ k. k.keys };
+    ghost view = { λ k. k.keys.items };
 }
 
 impl LaneKeys {
@@ -33,7 +32,7 @@ impl LaneKeys {
         ensures { result ≡ [] }
     {
         LaneKeys {
-            keys: Keys::new(alloc),
+            keys: Vec::new(alloc),
         }
     }
 
@@ -49,14 +48,19 @@ impl LaneKeys {
         ensures lane { IfSome result (λ i. slice_get self.now i ≡ Some key) }
         ensures found { is_some result ≡ is_member nat_eq self.now key }
     {
-        self.keys.place_of(key)
+        for lane in 0..self.keys.len() {
+            if key == self.keys[lane] {
+                return Some(lane);
+            }
+        }
+        None
     }
 
     /// Whether a lane has this key, or may have it as one more: the key after the last of [`MOST_KEYS`] is a fault.
     pub fn has_place(&self, key: u64) -> bool
         ensures { result ≡ has_place self.now key }
     {
-        self.keys.as_slice().len() < MOST_KEYS || self.keys.contains(key)
+        self.keys.len() < MOST_KEYS || self.lane_of(key).is_some()
     }
 
     /// Puts a key last, unless it is there.
@@ -67,10 +71,10 @@ impl LaneKeys {
         ensures keys { OnOk result (self.new ≡ see self.old key) }
         ensures same { OnErr result (self.new ≡ self.old) }
     {
-        match self.keys.note(key) {
-            Ok(_) => Ok(()),
-            Err(_) => Err(NoMemory),
+        if self.lane_of(key).is_none() {
+            self.keys.push(key)?;
         }
+        Ok(())
     }
 
     /// Lets the last key go. It keeps its memory.
