@@ -8,6 +8,7 @@ ghost use Rattle.rsx_collections.specs.Keys.{noted};
 use rsx_types::NoMemory;
 use std::alloc::Global;
 use std::collections::HashMap;
+use std::collections::hash_map::Entry;
 use std::marker::Model;
 
 /// Keys without repetition, in the order in which each came first. Contracts see the list of them.
@@ -56,17 +57,22 @@ impl Keys {
         ensures keys { OnOk result (self.new ≡ noted self.old key) }
         ensures same { OnErr result (self.new ≡ self.old) }
     {
-        if self.places.contains_key(&key) {
-            return Ok(true);
-        }
-        let place = self.order.len();
-        self.order.push(key)?;
-        match self.places.insert(key, place) {
-            Ok(_) => Ok(false),
-            Err(_) => {
-                let _ = self.order.pop();
-                Err(NoMemory)
+        match self.places.entry(key) {
+            Ok(Entry::Occupied(known)) => {
+                // The place stays as it is.
+                known.into_mut();
+                Ok(true)
             }
+            Ok(Entry::Vacant(vacant)) => {
+                let place = self.order.len();
+                if self.order.push(key).is_err() {
+                    vacant.into_key();
+                    return Err(NoMemory);
+                }
+                vacant.insert(place);
+                Ok(false)
+            }
+            Err(_) => Err(NoMemory),
         }
     }
 

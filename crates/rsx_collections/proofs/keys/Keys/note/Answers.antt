@@ -1,32 +1,40 @@
-use Rattle.std.proofs.Common.{◌≡◌, ◌∙◌, nat_eq, true, false, length, refl, sym, rules}
+use Rattle.std.proofs.Common.{rules, ◌≡◌, ◌∙◌, nat_eq, true, false, length, sym, ap, None, ◌∷◌, [], ◌++◌}
 use Rattle.std.specs.Prelude.{is_some}
 use Rattle.std.specs.Set.{is_member}
 use Rattle.std.specs.HashMap.{get}
+use Rattle.std.specs.HashMap.Entry.{map_with_value}
+use Rattle.rsx_collections.specs.Keys.{HasPlaces}
 use Rattle.rsx_collections.proofs.Places.{is_found, places_more}
 use Rattle.rsx_collections.proofs.keys.Keys.note.Goals as goal
 
-pub returns-then-contains_key-clause-known : goal.returns-then-contains_key-clause-known
-returns-then-contains_key-clause-known c =
-    let known : is_member nat_eq c.self.inside.order.items c.args.key ≡ true = sym (is_found _ (get nat_eq c.self.inside.places) c.args.key c.self.invariant) ∙ (sym c.contains_key.ensures ∙ c.if-contains_key.true) in
+pub invariant_of-self-in-Ok-Vacant : goal.invariant_of-self-in-Ok-Vacant
+invariant_of-self-in-Ok-Vacant c =
+    let none : get nat_eq c.self.inside.places c.args.key ≡ None = rw c.in-Ok-Vacant.field-0-is at c.in-Ok-Vacant.ensures.found in
+    let last : c.len-place.result ≡ length c.self.inside.order.items = search rules in
+    let more : HasPlaces (c.self.inside.order.items ++ c.args.key ∷ []) (get nat_eq (map_with_value c.in-Ok-Vacant.field-0 c.len-place.result)) = places_more c.self.inside.order.items (get nat_eq c.self.inside.places) _ c.args.key c.self.invariant (ap is_some none) c.len-place.result last (c.in-Ok-Vacant.ensures.update.0 c.len-place.result).0 in
+    let items : c.push.new.self.items ≡ c.self.inside.order.items ++ c.args.key ∷ [] = search rules in
+    rw items (search rules)
+
+pub returns-in-Ok-Occupied-clause-known : goal.returns-in-Ok-Occupied-clause-known
+returns-in-Ok-Occupied-clause-known c =
+    let found = rw c.in-Ok-Occupied.field-0-is at c.in-Ok-Occupied.ensures.found in
+    let known : is_member nat_eq c.self.inside.order.items c.args.key ≡ true = sym (is_found _ (get nat_eq c.self.inside.places) c.args.key c.self.invariant) ∙ search rules in
     rw (← c.self.view_is) (sym known)
 
-pub returns-then-contains_key-clause-keys : goal.returns-then-contains_key-clause-keys
-returns-then-contains_key-clause-keys c =
-    let known : is_member nat_eq c.self.inside.order.items c.args.key ≡ true = sym (is_found _ (get nat_eq c.self.inside.places) c.args.key c.self.invariant) ∙ (sym c.contains_key.ensures ∙ c.if-contains_key.true) in
-    rw (← c.self.view_is, known) refl
-
-pub invariant_of-self-in-Ok : goal.invariant_of-self-in-Ok
-invariant_of-self-in-Ok c =
-    let out : is_some (get nat_eq c.self.inside.places c.args.key) ≡ false = sym c.contains_key.ensures ∙ c.if-contains_key.false in
-    let last : c.len-place.result ≡ length c.self.inside.order.items = search rules in
-    rw c.in_ok-push.ensures.items (places_more c.self.inside.order.items (get nat_eq c.self.inside.places) (get nat_eq c.insert.new.self) c.args.key c.self.invariant out c.len-place.result last c.in-Ok.ensures.updates.0)
-
-pub returns-in-Ok-clause-known : goal.returns-in-Ok-clause-known
-returns-in-Ok-clause-known c =
-    let new : is_member nat_eq c.self.inside.order.items c.args.key ≡ false = sym (is_found _ (get nat_eq c.self.inside.places) c.args.key c.self.invariant) ∙ (sym c.contains_key.ensures ∙ c.if-contains_key.false) in
+pub returns-else-is_err-clause-known : goal.returns-else-is_err-clause-known
+returns-else-is_err-clause-known c =
+    let none : get nat_eq c.self.inside.places c.args.key ≡ None = rw c.in-Ok-Vacant.field-0-is at c.in-Ok-Vacant.ensures.found in
+    let new : is_member nat_eq c.self.inside.order.items c.args.key ≡ false = sym (is_found _ (get nat_eq c.self.inside.places) c.args.key c.self.invariant) ∙ ap is_some none in
     rw (← c.self.view_is) (sym new)
 
-pub returns-in-Ok-clause-keys : goal.returns-in-Ok-clause-keys
-returns-in-Ok-clause-keys c =
-    let new : is_member nat_eq c.self.inside.order.items c.args.key ≡ false = sym (is_found _ (get nat_eq c.self.inside.places) c.args.key c.self.invariant) ∙ (sym c.contains_key.ensures ∙ c.if-contains_key.false) in
-    rw (← c.self.view_is, new) c.in_ok-push.ensures.items
+pub returns-else-is_err-clause-keys : goal.returns-else-is_err-clause-keys
+returns-else-is_err-clause-keys c =
+    let none : get nat_eq c.self.inside.places c.args.key ≡ None = rw c.in-Ok-Vacant.field-0-is at c.in-Ok-Vacant.ensures.found in
+    let new : is_member nat_eq c.self.inside.order.items c.args.key ≡ false = sym (is_found _ (get nat_eq c.self.inside.places) c.args.key c.self.invariant) ∙ ap is_some none in
+    rw (← c.self.view_is, new) (search rules)
+
+pub returns-in-Ok-Occupied-clause-keys : goal.returns-in-Ok-Occupied-clause-keys
+returns-in-Ok-Occupied-clause-keys c =
+    let found = rw c.in-Ok-Occupied.field-0-is at c.in-Ok-Occupied.ensures.found in
+    let known : is_member nat_eq c.self.inside.order.items c.args.key ≡ true = sym (is_found _ (get nat_eq c.self.inside.places) c.args.key c.self.invariant) ∙ search rules in
+    rw (← c.self.view_is, known) (search rules)
