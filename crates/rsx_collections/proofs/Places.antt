@@ -15,7 +15,7 @@ key_there [] k i h = cc
 key_there (j ∷ ks) k zero h = let same : j ≡ k = same_Some j k h in rw (same, eq-eqb k k refl) refl
 key_there (j ∷ ks) k (suc i) h = or_right (nat_eq k j) (is_member nat_eq ks k) (key_there ks k i h)
 
-stands_somewhere : (ks : List ℕ) (k : ℕ) → is_member nat_eq ks k ≡ true → (i : ℕ) × (slice_get ks i ≡ Some k)
+pub stands_somewhere : (ks : List ℕ) (k : ℕ) → is_member nat_eq ks k ≡ true → (i : ℕ) × (slice_get ks i ≡ Some k)
 stands_somewhere [] k h = cc
 stands_somewhere (j ∷ ks) k h = by_test (nat_eq k j) refl (stands_somewhere ks k)
   where
@@ -41,7 +41,7 @@ stays_in_place [] more k i h = cc
 stays_in_place (j ∷ ks) more k zero h = h
 stays_in_place (j ∷ ks) more k (suc i) h = stays_in_place ks more k i h
 
-before_or_last : (ks : List ℕ) (k q i : ℕ) → slice_get (ks ++ k ∷ []) i ≡ Some q → (slice_get ks i ≡ Some q) ⊎ ((i ≡ length ks) × (k ≡ q))
+pub before_or_last : (ks : List ℕ) (k q i : ℕ) → slice_get (ks ++ k ∷ []) i ≡ Some q → (slice_get ks i ≡ Some q) ⊎ ((i ≡ length ks) × (k ≡ q))
 before_or_last [] k q zero h = inr (refl, same_Some k q h)
 before_or_last [] k q (suc i) h = cc
 before_or_last (j ∷ ks) k q zero h = inl h
