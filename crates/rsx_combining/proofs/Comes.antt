@@ -12,8 +12,9 @@ use Rattle.rsx_queued.proofs.Changed.{IsPut, is_put, put_left, put_counted, put_
 use Rattle.rsx_queued.proofs.Merged.{picks_compose}
 use Rattle.rsx_queued.proofs.Outputs.{empty_is, item_leaves}
 use Rattle.rsx_queued.proofs.Picks.{none_more, padded}
-use Rattle.rsx_combining.specs.Latest.{LatestState, latest_of, latest_comes_out, latest_waiting, latest_takes, latest_popped, latest_recording, row_given, row_is_next, latest_with, made_out, may_pick, gives_row, latest_picks, latest_recorded, latest_ended, latest_done, IsLatestCounted, after_signal, after_pick}
+use Rattle.rsx_combining.specs.Latest.{LatestState, latest_of, latest_comes_out, latest_waiting, latest_takes, latest_with_signal, latest_popped, latest_recording, row_given, row_is_next, latest_with, made_out, may_pick, gives_row, latest_picks, latest_recorded, latest_ended, latest_done, IsLatestCounted, after_signal, after_pick}
 use Rattle.rsx_combining.proofs.Chooses.{pick_records, pick_counts}
+use Rattle.rsx_combining.proofs.Filled.{set_with}
 use Rattle.rsx_combining.proofs.Gives.{no_row_given}
 use Rattle.rsx_combining.proofs.Takes.{IsTaken, is_within, read_there, row_is_next_at, row_taken}
 
@@ -32,6 +33,10 @@ pub signal_in : {T : Type 0} (m : Meaning T) (start old : LatestState T) (i : �
 signal_in {T} m start old i s a b same e was put value =
     let P : LatestState T → Type 0 = λ n. TakesIn (latest_comes_out m) n i s (with_input start i b) in
     subst P same (signal_at m start i s a b (is_put start.inputs i s a b (ap (λ n. latest_takes n i (front_of s)) same ∙ e) was put) value)
+
+pub signal_made : {T : Type 0} (start old : LatestState T) (i : ℕ) (s : Signal T) (a b : QueuedInput T) → start ≡ old → a ≡ slice_index_or start.inputs i a → b ≡ with_signal a s → with_input start i b ≡ latest_with_signal old i s
+signal_made start old i s a b same was put =
+    ap (λ qs. record { inputs = qs; latest = start.latest; output = start.output; choices = start.choices }) (set_with start.inputs i s a b was put) ∙ ap (λ n. latest_with_signal n i s) same
 
 -- ---- the counts
 

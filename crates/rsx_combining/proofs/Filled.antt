@@ -1,5 +1,5 @@
 -- A signal that comes in at an input, and inputs at which nothing came in.
-use Rattle.std.proofs.Common.{◌≡◌, ℕ, zero, suc, ◌+◌, ◌<◌, ◌≤◌, ◌^◌, true, false, List, [], ◌∷◌, ◌++◌, length, slice_index_or, slice_set, None, refl, ap, sym, ◌∙◌, subst, arith, append_assoc}
+use Rattle.std.proofs.Common.{◌≡◌, ℕ, zero, suc, ◌+◌, ◌<◌, ◌≤◌, ◌^◌, true, List, [], ◌∷◌, ◌++◌, length, slice_index_or, slice_set, None, refl, ap, sym, ◌∙◌, subst, arith, append_assoc}
 use Rattle.std.proofs.Math.ListN.{replicate}
 use Rattle.std.proofs.lemmas.List.{length-replicate}
 use Rattle.std.proofs.lemmas.Bool.{and_parts}
@@ -13,7 +13,7 @@ use Rattle.rsx_queued.proofs.Counts.{counted_with, counted_fresh}
 use Rattle.rsx_queued.proofs.Changed.{IsPut}
 use Rattle.rsx_queued.proofs.Values.{front_list}
 use Rattle.rsx_combining.specs.Zip.{ZipState, IsZipCounted}
-use Rattle.rsx_combining.specs.Inputs.{left, lefts, AllCounted}
+use Rattle.rsx_combining.specs.Inputs.{left, lefts, with_signal_at, AllCounted}
 
 -- ---- what is still to come of an input that takes a signal
 
@@ -44,6 +44,13 @@ pub put_lefts : {T : Type 0} (qs : List (QueuedInput T)) (i : ℕ) (s : Signal T
 put_lefts qs i s old new p inc =
     put_at qs i new s (inc.first ∷ inc.others) old p.there (λ v. ap (λ q. left q v) p.with_it ∙ left_with old s v p.takes_it ∙ ap (λ q. left q (signal_then s v)) p.was)
     ∙ ap (lefts qs) (sym (front_list i s inc))
+
+-- ---- the inputs behind it
+
+pub set_with : {T : Type 0} (qs : List (QueuedInput T)) (i : ℕ) (s : Signal T) (old new : QueuedInput T) → old ≡ slice_index_or qs i old → new ≡ with_signal old s → slice_set qs i new ≡ with_signal_at qs i s
+set_with [] i s old new was put = refl
+set_with (q ∷ qs) zero s old new was put = ap (λ p. p ∷ qs) (put ∙ ap (λ p. with_signal p s) was)
+set_with (q ∷ qs) (suc i) s old new was put = ap (λ l. q ∷ l) (set_with qs i s old new was put)
 
 -- ---- counts
 

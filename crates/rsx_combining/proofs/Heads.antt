@@ -1,11 +1,5 @@
 -- The next item of each input.
-use Rattle.std.proofs.Common.{◌≡◌, true, List, [], ◌∷◌, ◌++◌, Option, Some, None, option_map, ap, sym, ◌∙◌, append_assoc, ◌&&◌, false, refl}
-use Rattle.std.proofs.lemmas.Bool.{and_parts}
-use Rattle.rsx_queued.specs.declared.tail.Tail.{Tail}
-use Rattle.rsx_queued.specs.declared.tail.Tail.TheVariants.{Open, Completion, Failure, Taken}
-use Rattle.rsx_queued.specs.Prelude.{first_held, unless_taken, next_signal}
-use Rattle.rsx_queued.specs.declared.input.QueuedInput.{QueuedInput}
-use Rattle.rsx_values.specs.Zip.{heads}
+use Rattle.std.proofs.Common.{◌≡◌, Option, Some, None, option_map, ap, sym}
 use Rattle.rsx_sources.specs.Prelude.{Signal, Next, Complete, Error, front_of}
 use Rattle.rsx_sources.specs.declared.machine.Front.{Front}
 use Rattle.rsx_sources.specs.declared.machine.Front.TheVariants.{Item, Completion as CompletionFront, Failure as FailureFront}

@@ -1,7 +1,7 @@
 -- What the calls of a zip do, from the state in which the code found it.
 use Rattle.std.proofs.lemmas.List.{length-set}
 use Rattle.std.proofs.lemmas.Bool.{and_parts}
-use Rattle.std.proofs.Common.{◌≡◌, ℕ, ◌≤◌, ◌^◌, ◌&&◌, Bool, true, false, nat_lt, zero, suc, List, [], ◌∷◌, ◌++◌, slice_index_or, slice_set, Option, Some, None, option_map, inr, refl, ap, sym, ◌∙◌, subst}
+use Rattle.std.proofs.Common.{◌≡◌, ℕ, ◌≤◌, ◌^◌, ◌&&◌, true, nat_lt, zero, suc, List, [], ◌∷◌, ◌++◌, slice_index_or, slice_set, Option, Some, None, option_map, inr, refl, ap, sym, ◌∙◌, subst}
 use Rattle.rsx_sources.specs.Prelude.{Note, Nothing, Picks, Ended, Done, Signal, Next, Meaning, Stream, ended_by, signal_then, CountsIn, CountsStep, TakesIn, Keeps, front_of, IsResidualOf, IsSteppedOut}
 use Rattle.rsx_queued.specs.declared.input.QueuedInput.{QueuedInput}
 use Rattle.rsx_queued.specs.declared.output.Output.{Output}
@@ -9,10 +9,10 @@ use Rattle.rsx_queued.specs.declared.output.Output.TheVariants.{Empty, Waiting}
 use Rattle.rsx_queued.specs.Prelude.{with_signal, is_empty, has_ending, is_over, output_then}
 use Rattle.rsx_values.specs.Zip.{heads, zip}
 use Rattle.rsx_combining.specs.Inputs.{lefts, all_have_items, queued, all_shortened}
-use Rattle.rsx_combining.specs.Zip.{ZipState, recorded_ending, behind_ending, zip_of, zip_comes_out, zip_waiting, zip_takes, zip_picks, zip_rows, IsZipRow, zip_popped, zip_recording, zip_recorded, zip_ended, zip_done, IsZipCounted, is_some_input}
+use Rattle.rsx_combining.specs.Zip.{ZipState, recorded_ending, behind_ending, zip_of, zip_comes_out, zip_waiting, zip_takes, zip_with_signal, zip_picks, zip_rows, IsZipRow, zip_popped, zip_recording, zip_recorded, zip_ended, zip_done, IsZipCounted, is_some_input}
 use Rattle.rsx_queued.proofs.Changed.{IsPut, is_put, put_done, put_ends}
 use Rattle.rsx_queued.proofs.Outputs.{empty_is}
-use Rattle.rsx_combining.proofs.Filled.{put_lefts, put_counted}
+use Rattle.rsx_combining.proofs.Filled.{put_lefts, put_counted, set_with}
 use Rattle.rsx_combining.proofs.Zips.{row_made, row_counts, rest_out}
 
 -- ---- a signal comes in
@@ -58,6 +58,10 @@ pub signal_counts : {T : Type 0} (start old : ZipState T) (i : ℕ) (s : Signal 
 signal_counts {T} start old i s a b same e was put =
     let P : ZipState T → Type 0 = λ n. CountsIn IsZipCounted zip_ended zip_done n i s (with_input start i b) in
     subst P same (counts_at start i s a b (is_put start.inputs i s a b (ap (λ n. zip_takes n i (front_of s)) same ∙ e) was put))
+
+pub signal_made : {T : Type 0} (start old : ZipState T) (i : ℕ) (s : Signal T) (a b : QueuedInput T) → start ≡ old → a ≡ slice_index_or start.inputs i a → b ≡ with_signal a s → with_input start i b ≡ zip_with_signal old i s
+signal_made start old i s a b same was put =
+    ap (λ qs. record { inputs = qs; output = start.output; chosen = start.chosen }) (set_with start.inputs i s a b was put) ∙ ap (λ n. zip_with_signal n i s) same
 
 -- ---- a row is made
 

@@ -1,10 +1,12 @@
 -- The inputs of a zip: what is still to come of each, and what can be done with it.
-use Rattle.std.specs.Prelude.{◌≡◌, ℕ, ◌^◌, nat_lt, Bool, true, false, ◌&&◌, if◌then◌else◌, List, [], ◌∷◌, drop, slice_get, Option, Some, None}
+use Rattle.std.specs.Prelude.{◌≡◌, ℕ, zero, suc, ◌^◌, nat_lt, Bool, true, false, ◌&&◌, if◌then◌else◌, List, [], ◌∷◌, drop, slice_get, Option, Some, None}
 use Rattle.rsx_sources.specs.Prelude.{Open, Signal, Next, Complete, Error, Stream, ended_by}
+use Rattle.rsx_sources.specs.declared.machine.Passed.{Passed}
+use Rattle.rsx_sources.specs.declared.machine.Passed.TheVariants.{Item, Kept, Declined}
 use Rattle.rsx_demand.specs.Demand.{saturating_total}
 use Rattle.rsx_prefetch.specs.Queue.{queue}
 use Rattle.rsx_queued.specs.declared.input.QueuedInput.{QueuedInput}
-use Rattle.rsx_queued.specs.Prelude.{still, next_signal, IsCounted, is_gone, next_signal_at, head_of, tail_of}
+use Rattle.rsx_queued.specs.Prelude.{still, next_signal, with_signal, IsCounted, is_gone, next_signal_at, head_of, tail_of}
 
 -- of an input whose ending was taken nothing comes
 abbrev pub or_nothing : {T : Type 0} → Option (Stream T) → Stream T
@@ -56,6 +58,21 @@ shortened q = record q { queue = queue (drop 1 q.queue.items) q.queue.capacity (
 abbrev pub all_shortened : {T : Type 0} → List (QueuedInput T) → List (QueuedInput T)
 all_shortened [] = []
 all_shortened (q ∷ qs) = shortened q ∷ all_shortened qs
+
+-- ---- what comes in
+
+-- the inputs with this signal put in at input i
+abbrev pub with_signal_at : {T : Type 0} → List (QueuedInput T) → ℕ → Signal T → List (QueuedInput T)
+with_signal_at [] i s = []
+with_signal_at (q ∷ qs) zero s = with_signal q s ∷ qs
+with_signal_at (q ∷ qs) (suc i) s = q ∷ with_signal_at qs i s
+
+-- what came of an item that was to go through a node that only queues it: where it was taken in, the node is as this state
+-- says, and nothing went out; else the item comes back, and nothing has changed
+abbrev pub IsQueued : {T S : Type 0} → Bool → S → S → T → Passed T → S → Type 0
+IsQueued takes_it queued old x (Item y) new = ⊥
+IsQueued takes_it queued old x Kept new = (takes_it ≡ true) × (new ≡ queued)
+IsQueued takes_it queued old x (Declined y) new = (takes_it ≡ false) × (y ≡ x) × (new ≡ old)
 
 -- each input took so many items in, and none is gone
 abbrev pub AllCounted : {T : Type 0} → List (QueuedInput T) → List ℕ → Type 0

@@ -2,12 +2,15 @@
 use Rattle.std.specs.Prelude.{◌≡◌, ℕ, zero, suc, ◌≤◌, ◌^◌, ◌&&◌, ◌||◌, not, Bool, true, false, nat_lt, List, [], ◌∷◌, length, slice_get, slice_set, Option, Some, None, option_map}
 use Rattle.rsx_sources.specs.Prelude.{Note, Picks, Signal, Next, Complete, Error, Meaning, Stream, Incoming, front_of}
 use Rattle.rsx_sources.specs.declared.machine.Front.{Front}
+use Rattle.rsx_sources.specs.declared.machine.Front.TheVariants.{Item}
+use Rattle.rsx_sources.specs.declared.machine.Passed.{Passed}
 use Rattle.rsx_values.specs.declared.record.Run.{Run}
 use Rattle.rsx_values.specs.Prelude.{written, all_latest, is_itemless, combine, combine_latest, unless_chosen}
 use Rattle.rsx_queued.specs.declared.input.QueuedInput.{QueuedInput}
 use Rattle.rsx_queued.specs.declared.output.Output.{Output}
 use Rattle.rsx_queued.specs.declared.output.Output.TheVariants.{Waiting}
 use Rattle.rsx_queued.specs.Prelude.{without, next_signal, next_signal_at, takes_at, credits_at, waiting_at, done_at, are_gone, AreCounted, inputs_left, picked, out_signal, is_empty, has_ending, is_over, output_then, IsOut, first_values}
+use Rattle.rsx_combining.specs.Inputs.{with_signal_at, IsQueued}
 
 -- the inputs, the latest item of each, what the node has put out, and the choices made
 pub record LatestState (T : Type 0) : Type 0 where
@@ -32,6 +35,10 @@ latest_shown n = option_map front_of (out_signal n.output)
 -- an item needs room in the input's queue
 abbrev pub latest_takes : {T : Type 0} → LatestState T → ℕ → Front → Bool
 latest_takes n i f = takes_at (slice_get n.inputs i) f
+
+-- a signal came in at input i: it is in that queue, and nothing else has changed
+abbrev pub latest_with_signal : {T : Type 0} → LatestState T → ℕ → Signal T → LatestState T
+latest_with_signal n i s = record { inputs = with_signal_at n.inputs i s; latest = n.latest; output = n.output; choices = n.choices }
 
 abbrev pub is_there : {A : Type 0} → Option A → Bool
 is_there None = false
@@ -86,6 +93,10 @@ latest_recorded n = Picks (written n.choices)
 
 abbrev pub latest_ended : {T : Type 0} → LatestState T → Bool
 latest_ended n = has_ending n.output
+
+-- an item that is to go through waits at its input, unless that can't take it or the node has ended
+abbrev pub IsLatestPassed : {T : Type 0} → LatestState T → ℕ → T → Passed T → LatestState T → Type 0
+IsLatestPassed old i x passed new = IsQueued (not (latest_ended old) && latest_takes old i Item) (latest_with_signal old i (Next x)) old x passed new
 
 abbrev pub latest_done : {T : Type 0} → LatestState T → ℕ → Bool
 latest_done n i = done_at (slice_get n.inputs i)

@@ -1,14 +1,16 @@
 -- The zip as a node: a queue for each input, the out slot, and the input whose ending was taken.
-use Rattle.std.specs.Prelude.{◌≡◌, ℕ, ◌≤◌, ◌^◌, ◌&&◌, Bool, true, false, if◌then◌else◌, nat_eq, nat_lt, List, [], ◌∷◌, length, slice_get, Option, Some, None, option_map}
+use Rattle.std.specs.Prelude.{◌≡◌, ℕ, ◌≤◌, ◌^◌, ◌&&◌, not, Bool, true, false, if◌then◌else◌, nat_eq, nat_lt, List, [], ◌∷◌, length, slice_get, Option, Some, None, option_map}
 use Rattle.std.specs.Option.{is_some}
 use Rattle.rsx_sources.specs.Prelude.{Note, Nothing, Picks, Ended, Done, Signal, Next, Meaning, Allocates, Stream, ended_by, Incoming, front_of}
 use Rattle.rsx_sources.specs.declared.machine.Front.{Front}
+use Rattle.rsx_sources.specs.declared.machine.Front.TheVariants.{Item}
+use Rattle.rsx_sources.specs.declared.machine.Passed.{Passed}
 use Rattle.rsx_queued.specs.declared.input.QueuedInput.{QueuedInput}
 use Rattle.rsx_queued.specs.declared.output.Output.{Output}
-use Rattle.rsx_queued.specs.declared.output.Output.TheVariants.{Empty, Waiting}
+use Rattle.rsx_queued.specs.declared.output.Output.TheVariants.{Waiting}
 use Rattle.rsx_queued.specs.Prelude.{out_signal, is_empty, has_ending, is_over, output_then, IsOut, takes_at, credits_at, waiting_at, done_at, first_values}
 use Rattle.rsx_values.specs.Zip.{zip}
-use Rattle.rsx_combining.specs.Inputs.{lefts, ending_at, all_have_items, all_shortened, AllCounted}
+use Rattle.rsx_combining.specs.Inputs.{lefts, ending_at, all_have_items, all_shortened, with_signal_at, IsQueued, AllCounted}
 
 -- the inputs, what the node has put out, and the number of the input whose ending it took
 pub record ZipState (T : Type 0) : Type 0 where
@@ -44,6 +46,10 @@ zip_shown n = option_map front_of (out_signal n.output)
 abbrev pub zip_takes : {T : Type 0} → ZipState T → ℕ → Front → Bool
 zip_takes n i f = takes_at (slice_get n.inputs i) f
 
+-- a signal came in at input i: it is in that queue, and nothing else has changed
+abbrev pub zip_with_signal : {T : Type 0} → ZipState T → ℕ → Signal T → ZipState T
+zip_with_signal n i s = record { inputs = with_signal_at n.inputs i s; output = n.output; chosen = n.chosen }
+
 abbrev pub is_unchosen : Option ℕ → Bool
 is_unchosen None = true
 is_unchosen (Some i) = false
@@ -71,6 +77,14 @@ pub record IsZipRow {T : Type 0} (old : ZipState T) (asked sent : ℕ) (new : Zi
   pub output : new.output ≡ Waiting (Next row)
   pub chosen : new.chosen ≡ old.chosen
 
+-- a pick: the ending that is next at input i waits, the input is recorded, and the queues are as they were
+pub record IsZipPick {T : Type 0} (old : ZipState T) (i : ℕ) (new : ZipState T) : Type 0 where
+  pub ending : Signal T
+  pub next : ending_at old.inputs i ≡ Some ending
+  pub inputs : new.inputs ≡ old.inputs
+  pub output : new.output ≡ Waiting ending
+  pub chosen : new.chosen ≡ Some i
+
 abbrev pub zip_recording : {T : Type 0} → ZipState T → ℕ → Note
 zip_recording n i = Ended (Some i)
 
@@ -82,6 +96,10 @@ zip_ended n = has_ending n.output
 
 abbrev pub zip_done : {T : Type 0} → ZipState T → ℕ → Bool
 zip_done n i = done_at (slice_get n.inputs i)
+
+-- an item that is to go through waits at its input, unless that can't take it or the node has ended
+abbrev pub IsZipPassed : {T : Type 0} → ZipState T → ℕ → T → Passed T → ZipState T → Type 0
+IsZipPassed old i x passed new = IsQueued (not (zip_ended old) && zip_takes old i Item) (zip_with_signal old i (Next x)) old x passed new
 
 -- as long as no ending was taken, and there are inputs
 pub record IsZipCounted {T : Type 0} (n : ZipState T) (taken : List ℕ) (sent : ℕ) : Type 0 where

@@ -225,8 +225,9 @@ impl<T: Drop> Machine for CombineLatestNode<T> {
     ghost use Rattle.rsx_sources.specs.Counts.{CountsIn, CountsStep};
     ghost use Rattle.rsx_sources.specs.Machine.{TakesIn, Keeps, Records, IsComposed, front_of};
     ghost use Rattle.rsx_sources.specs.Reading.{IsReadOn, IsResidualOf};
+    ghost use Rattle.rsx_sources.specs.Passed.{IsPassed};
     ghost use Rattle.rsx_sources.specs.Steps.{IsNotTaken, IsNotMade};
-    ghost use Rattle.rsx_combining.specs.Latest.{LatestState, latest_comes_out, latest_waiting, latest_shown, latest_takes, latest_picks, latest_recording, latest_recorded, latest_ended, latest_done, IsLatestCounted, latest_wanted, latest_popped};
+    ghost use Rattle.rsx_combining.specs.Latest.{LatestState, latest_comes_out, latest_waiting, latest_shown, latest_takes, latest_with_signal, IsLatestPassed, latest_picks, latest_recording, latest_recorded, latest_ended, latest_done, IsLatestCounted, latest_wanted, latest_popped};
     ghost use Rattle.rsx_combining.specs.LatestLaws.{latest_drops, latest_ends, latest_done_drops, latest_settles, latest_ending_waits, latest_hungry};
 
     ghost comes_out = { latest_comes_out };
@@ -303,6 +304,7 @@ impl<T: Drop> Machine for CombineLatestNode<T> {
         signal: Signal<T>,
     ) -> Result<(), NotTaken<T>>
         ensures ok { OnOk result (TakesIn (latest_comes_out (O.meaning ops.now)) self.old input signal self.new) }
+        ensures made { OnOk result (self.new ≡ latest_with_signal self.old input signal) }
         ensures enabled { OnOk result (latest_takes self.old input (front_of signal) ≡ true) }
         ensures recorded { latest_recorded self.new ≡ latest_recorded self.old }
         ensures counts { OnOk result (CountsIn IsLatestCounted latest_ended latest_done self.old input signal self.new) }
@@ -321,7 +323,11 @@ impl<T: Drop> Machine for CombineLatestNode<T> {
         self.output.pop_item()
     }
 
-    fn pass<O: Ops<Item = T>>(&mut self, alloc: Global, ops: &O, input: u64, item: T) -> Passed<T> {
+    fn pass<O: Ops<Item = T>>(&mut self, alloc: Global, ops: &O, input: u64, item: T) -> Passed<T>
+        ensures passed { IsPassed (latest_comes_out (O.meaning ops.now)) (latest_waiting (O.meaning ops.now))
+            latest_takes latest_popped latest_recorded IsLatestCounted latest_ended latest_done self.old input item result self.new }
+        ensures made { IsLatestPassed self.old input item result self.new }
+    {
         if self.has_ended() || !self.can_take(input, Front::Item) {
             return Passed::Declined(item);
         }

@@ -150,7 +150,8 @@ impl<T: Drop> Machine for ZipNode<T> {
     ghost use Rattle.rsx_sources.specs.Machine.{TakesIn, Keeps, Records, IsComposed, front_of};
     ghost use Rattle.rsx_sources.specs.Reading.{IsReadOn, IsResidualOf};
     ghost use Rattle.rsx_sources.specs.Steps.{IsNotTaken, IsNotMade};
-    ghost use Rattle.rsx_combining.specs.Zip.{ZipState, zip_comes_out, zip_waiting, zip_shown, zip_takes, zip_picks, zip_rows, IsZipRow, zip_recording, zip_recorded, zip_ended, zip_done, IsZipCounted, zip_wanted, zip_popped, zip_step_allocates};
+    ghost use Rattle.rsx_sources.specs.Passed.{IsPassed};
+    ghost use Rattle.rsx_combining.specs.Zip.{ZipState, zip_comes_out, zip_waiting, zip_shown, zip_takes, zip_with_signal, IsZipPassed, zip_picks, IsZipPick, zip_rows, IsZipRow, zip_recording, zip_recorded, zip_ended, zip_done, IsZipCounted, zip_wanted, zip_popped, zip_step_allocates};
     ghost use Rattle.rsx_combining.specs.ZipLaws.{zip_popped_alike, zip_drops, zip_ends, zip_done_drops, zip_settles, zip_ending_waits, zip_hungry};
 
     ghost comes_out = { zip_comes_out };
@@ -228,6 +229,7 @@ impl<T: Drop> Machine for ZipNode<T> {
         signal: Signal<T>,
     ) -> Result<(), NotTaken<T>>
         ensures ok { OnOk result (TakesIn (zip_comes_out (O.meaning ops.now)) self.old input signal self.new) }
+        ensures made { OnOk result (self.new ≡ zip_with_signal self.old input signal) }
         ensures enabled { OnOk result (zip_takes self.old input (front_of signal) ≡ true) }
         ensures recorded { zip_recorded self.new ≡ zip_recorded self.old }
         ensures counts { OnOk result (CountsIn IsZipCounted zip_ended zip_done self.old input signal self.new) }
@@ -246,7 +248,11 @@ impl<T: Drop> Machine for ZipNode<T> {
         self.output.pop_item()
     }
 
-    fn pass<O: Ops<Item = T>>(&mut self, alloc: Global, ops: &O, input: u64, item: T) -> Passed<T> {
+    fn pass<O: Ops<Item = T>>(&mut self, alloc: Global, ops: &O, input: u64, item: T) -> Passed<T>
+        ensures passed { IsPassed (zip_comes_out (O.meaning ops.now)) (zip_waiting (O.meaning ops.now))
+            zip_takes zip_popped zip_recorded IsZipCounted zip_ended zip_done self.old input item result self.new }
+        ensures made { IsZipPassed self.old input item result self.new }
+    {
         if self.has_ended() || !self.can_take(input, Front::Item) {
             return Passed::Declined(item);
         }
@@ -294,6 +300,7 @@ impl<T: Drop> Machine for ZipNode<T> {
         sent: u64,
     ) -> Result<(), NotMade>
         ensures ok { OnOk result (Records (zip_comes_out (O.meaning ops.now)) self.old (zip_recording self.old input) self.new) }
+        ensures made { OnOk result (IsZipPick self.old input self.new) }
         ensures enabled { OnOk result (zip_picks self.old input asked sent ≡ true) }
         ensures recorded { OnOk result (zip_recorded self.new ≡ note_then (zip_recorded self.old) (zip_recording self.old input)) }
         ensures composes { OnOk result (IsComposed (zip_recorded self.old) (zip_recording self.old input)) }

@@ -1,7 +1,7 @@
 use Rattle.std.proofs.Common.{◌≡◌, true, sym, ap, ◌∙◌, rules}
 use Rattle.rsx_sources.specs.Machine.{front_of}
 use Rattle.rsx_combining.specs.Latest.{LatestState, latest_takes}
-use Rattle.rsx_combining.proofs.Comes.{signal_in, signal_counts}
+use Rattle.rsx_combining.proofs.Comes.{signal_in, signal_made, signal_counts}
 use Rattle.rsx_combining.proofs.latest.CombineLatestNodeMachine.on_signal.Goals as goal
 
 pub returns-clause-ok : goal.returns-clause-ok
@@ -9,6 +9,11 @@ returns-clause-ok g c =
     let start : LatestState g.row.T.Denot = record { inputs = c.self.inside.inputs.items; latest = c.self.inside.latest; output = c.self.inside.output; choices = c.self.inside.choices } in
     let takes : latest_takes c.args.self.now c.args.input (front_of c.args.signal) ≡ true = ap (latest_takes c.args.self.now c.args.input) (sym c.front_of.ensures) ∙ sym c.can_take.ensures ∙ c.if-not-can_take.false in
     signal_in (g.O.Ops.meaning c.args.ops.now) start c.args.self.now c.args.input c.args.signal c.index_mut.result.now c.put.new.self c.self.view_is takes c.index_mut.ensures.value c.put.ensures.state c.put.ensures.value
+
+pub returns-clause-made : goal.returns-clause-made
+returns-clause-made g c =
+    let start : LatestState g.row.T.Denot = record { inputs = c.self.inside.inputs.items; latest = c.self.inside.latest; output = c.self.inside.output; choices = c.self.inside.choices } in
+    signal_made start c.args.self.now c.args.input c.args.signal c.index_mut.result.now c.put.new.self c.self.view_is c.index_mut.ensures.value c.put.ensures.state
 
 pub returns-clause-counts : goal.returns-clause-counts
 returns-clause-counts g c =

@@ -29,6 +29,9 @@ same-self-in-None g c = search rules
 pub returns-in-Some-clause-ok : goal.returns-in-Some-clause-ok
 returns-in-Some-clause-ok g c = grind (arith, ending_taken)
 
+pub returns-in-Some-clause-made : goal.returns-in-Some-clause-made
+returns-in-Some-clause-made g c = search rules
+
 pub returns-in-Some-clause-enabled : goal.returns-in-Some-clause-enabled
 returns-in-Some-clause-enabled g c = search rules
 

@@ -1,8 +1,8 @@
-use Rattle.std.proofs.Common.{◌≡◌, true, false, refl, sym, ap, ◌∙◌, rules}
+use Rattle.std.proofs.Common.{◌≡◌, true, false, refl, sym, ◌∙◌, rules}
 use Rattle.rsx_types.specs.declared.signal.Signal.TheVariants.{Next}
 use Rattle.rsx_sources.specs.declared.machine.Front.TheVariants.{Item}
 use Rattle.rsx_combining.specs.Zip.{ZipState, zip_takes, zip_ended}
-use Rattle.rsx_combining.proofs.Steps.{signal_in, signal_counts}
+use Rattle.rsx_combining.proofs.Steps.{signal_in, signal_made, signal_counts}
 use Rattle.rsx_combining.proofs.zip.ZipNodeMachine.pass.Goals as goal
 
 pub returns-clause-passed : goal.returns-clause-passed
@@ -17,3 +17,12 @@ returns-clause-passed g c =
       counts = signal_counts start c.args.self.now c.args.input (Next c.args.item) c.index_mut.result.now c.put.new.self c.self.view_is takes c.index_mut.ensures.value c.put.ensures.state;
       goes_on = rw (← c.self.view_is) at going;
     }
+
+pub returns-clause-made : goal.returns-clause-made
+returns-clause-made g c =
+    let start : ZipState g.row.T.Denot = record { inputs = c.self.inside.inputs.items; output = c.self.inside.output; chosen = c.self.inside.chosen } in
+    let takes : zip_takes c.args.self.now c.args.input Item ≡ true = sym c.can_take.ensures ∙ c.if-not-can_take.false in
+    let going : zip_ended c.args.self.now ≡ false = sym c.has_ended.ensures ∙ c.if-has_ended.false in (
+      rw (going, takes) refl,
+      signal_made start c.args.self.now c.args.input (Next c.args.item) c.index_mut.result.now c.put.new.self c.self.view_is c.index_mut.ensures.value c.put.ensures.state,
+    )
