@@ -1,5 +1,5 @@
 -- The row that an item gives.
-use Rattle.std.proofs.Common.{◌≡◌, ℕ, zero, suc, ◌<◌, ◌++◌, ◌⊎◌, inl, inr, nat_eq, not, true, false, nat_lt, List, [], ◌∷◌, length, map, get_or, slice_get, slice_index_or, slice_set, append_assoc, append-nil, Option, Some, None, option_map, Result, Ok, Err, OnOk, refl, ap, sym, ◌∙◌, arith}
+use Rattle.std.proofs.Common.{◌≡◌, ℕ, zero, suc, ◌<◌, ◌++◌, ◌⊎◌, inl, inr, nat_eq, not, Bool, true, false, nat_lt, List, [], ◌∷◌, length, map, get_or, slice_get, slice_index_or, slice_set, append_assoc, append-nil, Option, Some, None, option_map, Result, Ok, Err, OnOk, refl, ap, sym, ◌∙◌, arith}
 use Rattle.std.proofs.lemmas.Bool.{and_parts}
 use Rattle.std.proofs.lemmas.Bool.Decides.{nat_tests}
 use Rattle.std.proofs.lemmas.List.{length-map}
@@ -57,13 +57,13 @@ first_below n = grind (arith, nat_tests)
 both_more : (i n : ℕ) → nat_lt i n ≡ nat_lt (suc i) (suc n)
 both_more i n = grind (arith, nat_tests)
 
+pub there_all : {A : Type 0} (xs : List A) → all_there (map Some xs) ≡ true
+there_all [] = refl
+there_all (x ∷ xs) = there_all xs
+
 pub gives_all : {A : Type 0} (xs : List A) (i : ℕ) → gives_row (map Some xs) i ≡ nat_lt i (length xs)
 gives_all [] i = not_below i
-gives_all (x ∷ xs) zero = all xs ∙ first_below (length xs)
-  where
-    all : {A : Type 0} (xs : List A) → all_there (map Some xs) ≡ true
-    all [] = refl
-    all (x ∷ xs) = all xs
+gives_all (x ∷ xs) zero = there_all xs ∙ first_below (length xs)
 gives_all (x ∷ xs) (suc i) = gives_all xs i ∙ both_more i (length xs)
 
 pub item_of_all : {A : Type 0} (xs : List A) (i : ℕ) → not (is_itemless (slice_get (map Some xs) i)) ≡ nat_lt i (length xs)
@@ -108,6 +108,11 @@ nothing (x ∷ all) n l none = absurd (zero_not n (length all) l none)
   where
     zero_not : (n k : ℕ) → n ≡ suc k → nat_eq n 0 ≡ true → ⊥
     zero_not n k l none = grind (arith, nat_tests)
+
+-- the items stand side by side
+pub all_had : {A : Type 0} (before now : List (Option A)) (all : List A) (n : ℕ) (b : Bool) → seen before all ≡ now → before ≡ [] ⊎ all ≡ [] → n ≡ length all → b ≡ nat_eq n 0 → not b ≡ true → all_there now ≡ true
+all_had before now all n true is one len e full = cc
+all_had before now all n false is one len e full = ap all_there (sym (all_seen before now all n is one len (sym e))) ∙ there_all all
 
 pub before_seen : {A : Type 0} (before now : List (Option A)) (all : List A) (n : ℕ) → seen before all ≡ now → n ≡ length all → nat_eq n 0 ≡ true → before ≡ now
 before_seen before now all n is l none = sym (append-nil before) ∙ ap (seen before) (sym (nothing all n l none)) ∙ is

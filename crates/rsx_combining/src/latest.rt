@@ -426,7 +426,8 @@ impl<T: Drop> Machine for CombineLatestNode<T> {
         Err(NotMade::NotEnabled)
     }
 
-    /// Picks the input that `next_pick` names, where an item is next there that gives a row.
+    /// Picks the input that `next_pick` names, where an item is next there that gives a row. `on_pick` makes the first row of
+    /// all, so as long as no item gives one there is nothing to look for.
     fn step_item<O: Ops<Item = T>>(
         &mut self,
         alloc: Global,
@@ -434,6 +435,9 @@ impl<T: Drop> Machine for CombineLatestNode<T> {
         asked: u64,
         sent: u64,
     ) -> Option<T> {
+        if !self.latest.had_row() {
+            return None;
+        }
         let input = match self.next_pick(asked, sent) {
             Some(input) => input,
             None => return None,

@@ -114,6 +114,14 @@ impl<T: Drop> LatestItems<T> {
         gives_row(self.before.as_slice(), input)
     }
 
+    /// Whether the items stand side by side, which they do from the first row on. The answer no promises nothing.
+    #[inline]
+    pub fn had_row(&self) -> bool
+        ensures { result ≡ true → all_there self.now ≡ true }
+    {
+        !self.all.as_slice().is_empty()
+    }
+
     /// Keeps this item as the latest of this input.
     pub fn keep(&mut self, at: usize, latest: T)
         requires { at < length self.old }
