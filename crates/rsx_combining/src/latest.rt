@@ -226,7 +226,7 @@ impl<T: Drop> Machine for CombineLatestNode<T> {
     ghost use Rattle.rsx_sources.specs.Machine.{TakesIn, Keeps, Records, IsComposed, front_of};
     ghost use Rattle.rsx_sources.specs.Reading.{IsReadOn, IsResidualOf};
     ghost use Rattle.rsx_sources.specs.Passed.{IsPassed};
-    ghost use Rattle.rsx_sources.specs.Steps.{IsNotTaken, IsNotMade};
+    ghost use Rattle.rsx_sources.specs.Steps.{IsNotTaken, IsNotMade, StaysAlike};
     ghost use Rattle.rsx_combining.specs.Latest.{LatestState, latest_comes_out, latest_waiting, latest_shown, latest_takes, latest_with_signal, IsLatestPassed, latest_picks, latest_recording, latest_recorded, latest_ended, latest_done, IsLatestCounted, latest_wanted, latest_popped};
     ghost use Rattle.rsx_combining.specs.LatestLaws.{latest_drops, latest_ends, latest_done_drops, latest_settles, latest_ending_waits, latest_hungry};
 
@@ -327,6 +327,7 @@ impl<T: Drop> Machine for CombineLatestNode<T> {
         ensures passed { IsPassed (latest_comes_out (O.meaning ops.now)) (latest_waiting (O.meaning ops.now))
             latest_takes latest_popped latest_recorded IsLatestCounted latest_ended latest_done self.old input item result self.new }
         ensures made { IsLatestPassed self.old input item result self.new }
+        ensures alike { StaysAlike (λ n. None) (λ n. false) (λ a n. false) (λ a n. false) (λ a n. true) self.old self.new }
     {
         if self.has_ended() || !self.can_take(input, Front::Item) {
             return Passed::Declined(item);

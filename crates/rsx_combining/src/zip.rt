@@ -149,7 +149,7 @@ impl<T: Drop> Machine for ZipNode<T> {
     ghost use Rattle.rsx_sources.specs.Counts.{CountsIn, CountsStep};
     ghost use Rattle.rsx_sources.specs.Machine.{TakesIn, Keeps, Records, IsComposed, front_of};
     ghost use Rattle.rsx_sources.specs.Reading.{IsReadOn, IsResidualOf};
-    ghost use Rattle.rsx_sources.specs.Steps.{IsNotTaken, IsNotMade};
+    ghost use Rattle.rsx_sources.specs.Steps.{IsNotTaken, IsNotMade, StaysAlike};
     ghost use Rattle.rsx_sources.specs.Passed.{IsPassed};
     ghost use Rattle.rsx_combining.specs.Zip.{ZipState, zip_comes_out, zip_waiting, zip_shown, zip_takes, zip_with_signal, IsZipPassed, zip_picks, IsZipPick, zip_rows, IsZipRow, zip_recording, zip_recorded, zip_ended, zip_done, IsZipCounted, zip_wanted, zip_popped, zip_step_allocates};
     ghost use Rattle.rsx_combining.specs.ZipLaws.{zip_popped_alike, zip_drops, zip_ends, zip_done_drops, zip_settles, zip_ending_waits, zip_hungry};
@@ -252,6 +252,7 @@ impl<T: Drop> Machine for ZipNode<T> {
         ensures passed { IsPassed (zip_comes_out (O.meaning ops.now)) (zip_waiting (O.meaning ops.now))
             zip_takes zip_popped zip_recorded IsZipCounted zip_ended zip_done self.old input item result self.new }
         ensures made { IsZipPassed self.old input item result self.new }
+        ensures alike { StaysAlike (λ n. None) (λ n. false) (λ a n. false) (λ a n. false) zip_step_allocates self.old self.new }
     {
         if self.has_ended() || !self.can_take(input, Front::Item) {
             return Passed::Declined(item);
