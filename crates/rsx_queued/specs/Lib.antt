@@ -1,4 +1,5 @@
 -- Definitions that contracts cite.
+pub mod Calls
 pub mod Held
 pub mod Input
 pub mod Inputs

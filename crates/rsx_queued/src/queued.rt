@@ -86,9 +86,11 @@ impl<M: Machine<Item = T>, T: Drop> Machine for Queued<M, T> {
     ghost use Rattle.rsx_queued.specs.QueuedLaws.{queued_shows, queued_popped_alike, queued_drops, queued_ends, queued_settles, queued_ending_waits, queued_hungry, queued_ends_reading, queued_done_drops};
     ghost use Rattle.rsx_queued.specs.Queued.{queued_comes_out, queued_waiting, queued_shown, queued_takes, queued_picks, queued_rows, queued_ended, queued_done, queued_counted, queued_wanted, queued_popped, queued_takes_published, queued_allocates, queued_step_allocates, can_transfer, QueuedCountsIn, QueuedCountsStep, QueuedAlike, queued_reads, queued_rooms};
     ghost use Rattle.rsx_queued.specs.declared.queued.Queued.{Queued};
-    ghost use Rattle.rsx_sources.specs.Machine.{TakesIn, Keeps, front_of};
+    ghost use Rattle.rsx_sources.specs.Machine.{IsComposed, TakesIn, Keeps, Records, front_of};
     ghost use Rattle.rsx_sources.specs.Steps.{IsNotTaken, IsNotMade, IsSameKind, StaysAlike};
     ghost use Rattle.rsx_queued.specs.Transfer.{IsQueueKept, IsQueuedRow, IsTransferred};
+    ghost use Rattle.rsx_queued.specs.Calls.{NodeTakesIn, NodeReadsOn, NodePicks, QueuedPassed, QueuedSteppedOut};
+    ghost use Rattle.rsx_types.specs.Notes.{note_then};
     ghost use Rattle.rsx_sources.specs.Reading.{IsReadOn, takes_published};
     ghost use Rattle.std.specs.Prelude.{◌≡◌, true, false, IsOk, OnOk, OnErr, IfErr};
 
@@ -198,6 +200,10 @@ impl<M: Machine<Item = T>, T: Drop> Machine for Queued<M, T> {
         ensures memory { M.signal_allocates (O.allocates ops.now) self.old.node ≡ false → IfErr result (λ e. e ≡ NotTaken.Busy signal) }
         ensures alike { QueuedAlike M.Machine self.old self.new }
         ensures same { OnErr result (self.new ≡ self.old) }
+
+        // Nothing that the node then offers goes over the edge by this call.
+        ensures queue { IsQueueKept self.old self.new }
+        ensures node { OnOk result (NodeTakesIn M.Machine (O.meaning ops.now) self.old.node input signal self.new.node) }
     {
         if !self.tail.is_open() {
             return Err(NotTaken::Busy(signal));
@@ -213,7 +219,12 @@ impl<M: Machine<Item = T>, T: Drop> Machine for Queued<M, T> {
         self.queue.pop()
     }
 
-    fn pass<O: Ops<Item = T>>(&mut self, alloc: Global, ops: &O, input: u64, item: T) -> Passed<T> {
+    fn pass<O: Ops<Item = T>>(&mut self, alloc: Global, ops: &O, input: u64, item: T) -> Passed<T>
+        ensures passed { QueuedPassed M.Machine (O.meaning ops.now) self.old input item result self.new }
+        ensures alike { QueuedAlike M.Machine self.old self.new }
+        ensures queue { IsQueueKept self.old self.new }
+        ensures declined { result ≡ Passed.Declined item }
+    {
         Passed::Declined(item)
     }
 
@@ -240,6 +251,8 @@ impl<M: Machine<Item = T>, T: Drop> Machine for Queued<M, T> {
         ensures err { IfErr result (λ s. s ≡ signal) }
         ensures alike { IsSameKind (λ n. true) (λ a n. false) (queued_allocates M.Machine) (queued_step_allocates M.Machine) self.old self.new }
         ensures same { OnErr result (self.new ≡ self.old) }
+        ensures queue { IsQueueKept self.old self.new }
+        ensures node { OnOk result (NodeReadsOn M.Machine self.old.node signal self.new.node) }
     {
         if !self.tail.is_open() {
             return Err(signal);
@@ -268,7 +281,20 @@ impl<M: Machine<Item = T>, T: Drop> Machine for Queued<M, T> {
         input: u64,
         asked: u64,
         sent: u64,
-    ) -> Result<(), NotMade> {
+    ) -> Result<(), NotMade>
+        ensures ok { OnOk result (Records (queued_comes_out M.Machine (O.meaning ops.now)) self.old (M.recording self.old.node input) self.new) }
+        ensures enabled { OnOk result (queued_picks M.Machine self.old input asked sent ≡ true) }
+        ensures recorded { OnOk result (M.recorded self.new.node ≡ note_then (M.recorded self.old.node) (M.recording self.old.node input)) }
+        ensures composes { OnOk result (IsComposed (M.recorded self.old.node) (M.recording self.old.node input)) }
+        ensures counts { OnOk result (QueuedCountsStep M.Machine self.old self.new) }
+        ensures err { IfErr result (IsNotMade (queued_picks M.Machine self.old input asked sent)) }
+        ensures memory { queued_step_allocates M.Machine (O.allocates ops.now) self.old ≡ false →
+            IfErr result (λ e. e ≡ NotMade.NotEnabled) }
+        ensures alike { QueuedAlike M.Machine self.old self.new }
+        ensures same { OnErr result (self.new ≡ self.old) }
+        ensures queue { IsQueueKept self.old self.new }
+        ensures node { OnOk result (NodePicks M.Machine (O.meaning ops.now) self.old.node input self.new.node) }
+    {
         if !self.tail.is_open() {
             return Err(NotMade::NotEnabled);
         }
@@ -350,7 +376,11 @@ impl<M: Machine<Item = T>, T: Drop> Machine for Queued<M, T> {
         ops: &O,
         asked: u64,
         sent: u64,
-    ) -> Option<T> {
+    ) -> Option<T>
+        ensures out { QueuedSteppedOut M.Machine (O.meaning ops.now) self.old asked sent result self.new }
+        ensures alike { QueuedAlike M.Machine self.old self.new }
+        ensures queue { IsQueueKept self.old self.new }
+    {
         if !self.queue.is_empty() || !self.tail.is_open() {
             return None;
         }
