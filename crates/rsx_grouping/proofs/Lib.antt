@@ -3,6 +3,7 @@ pub mod Copied
 pub mod Copies
 pub mod Fresh
 pub mod Idle
+pub mod Index
 pub mod Lanes
 pub mod MayWait
 pub mod Picks

@@ -1,10 +1,7 @@
 -- The keys of lanes, in the order in which each came first.
-use Rattle.std.proofs.Common.{◌≡◌, ℕ, zero, suc, ◌+◌, Bool, true, false, nat_eq, List, [], ◌∷◌, ◌++◌, slice_get, Option, Some, refl, ap, sym, arith}
-use Rattle.std.specs.Prelude.{length, nat_lt, position, IfSome}
-use Rattle.std.specs.List.{position_or_len}
+use Rattle.std.proofs.Common.{◌≡◌, ℕ, ◌+◌, Bool, true, false, nat_eq, List, [], ◌∷◌, ◌++◌, refl, arith}
 use Rattle.std.specs.Set.{is_member}
 use Rattle.std.proofs.lemmas.Bool.Decides.{nat_tests}
-use Rattle.std.proofs.lemmas.Option.{same_Some}
 use Rattle.std.proofs.lemmas.Bool.{eq-eqb, eqb-true, or_parts, or_right}
 use Rattle.rsx_grouping.specs.Keys.{AreDistinct}
 
@@ -30,11 +27,6 @@ pub last_seen : (ks : List ℕ) (k : ℕ) → is_member nat_eq (ks ++ k ∷ []) 
 last_seen [] k = rw (eq-eqb k k refl) refl
 last_seen (j ∷ ks) k = or_right (nat_eq k j) (is_member nat_eq (ks ++ k ∷ []) k) (last_seen ks k)
 
-pub key_there : (ks : List ℕ) (k i : ℕ) → slice_get ks i ≡ Some k → is_member nat_eq ks k ≡ true
-key_there [] k i h = cc
-key_there (j ∷ ks) k zero h = let same : j ≡ k = same_Some j k h in rw (same, eq-eqb k k refl) refl
-key_there (j ∷ ks) k (suc i) h = or_right (nat_eq k j) (is_member nat_eq ks k) (key_there ks k i h)
-
 not_same : (j k : ℕ) → nat_eq k j ≡ false → nat_eq j k ≡ false
 not_same j k h = grind (arith, nat_tests)
 
@@ -46,26 +38,3 @@ not_there (i ∷ ks) j k h n = rw (or_parts (nat_eq j i) (is_member nat_eq ks j)
 pub distinct_more : (ks : List ℕ) (k : ℕ) → AreDistinct ks → is_member nat_eq ks k ≡ false → AreDistinct (ks ++ k ∷ [])
 distinct_more [] k d out = (refl, tt)
 distinct_more (j ∷ ks) k d out = (not_there ks j k d.0 (or_parts (nat_eq k j) (is_member nat_eq ks k) out).0, distinct_more ks k d.1 (or_parts (nat_eq k j) (is_member nat_eq ks k) out).1)
-
--- ---- the place of a key
-
-first_place : (ks : List ℕ) (k : ℕ) → nat_lt (position_or_len (nat_eq k) ks) (length ks) ≡ true → slice_get ks (position_or_len (nat_eq k) ks) ≡ Some k
-first_place [] k h = cc
-first_place (j ∷ ks) k h = by_test (nat_eq k j) refl (first_place ks k)
-  where
-    less : (p n : ℕ) → nat_lt (1 + p) (suc n) ≡ true → nat_lt p n ≡ true
-    less p n h = grind (arith, nat_tests)
-
-    by_test : (t : Bool) → nat_eq k j ≡ t → (nat_lt (position_or_len (nat_eq k) ks) (length ks) ≡ true → slice_get ks (position_or_len (nat_eq k) ks) ≡ Some k) → slice_get (j ∷ ks) (position_or_len (nat_eq k) (j ∷ ks)) ≡ Some k
-    by_test true e rest = rw e (ap Some (sym (eqb-true k j e)))
-    by_test false e rest =
-        let more : 1 + position_or_len (nat_eq k) ks ≡ suc (position_or_len (nat_eq k) ks) = omega arith in
-        let there = rw e at h in
-        rw (e, more) (rest (less (position_or_len (nat_eq k) ks) (length ks) there))
-
-pub key_at : (ks : List ℕ) (k : ℕ) (r : Option ℕ) → r ≡ position (nat_eq k) ks → IfSome r (λ i. slice_get ks i ≡ Some k)
-key_at ks k r e = rw e (by_test (nat_lt (position_or_len (nat_eq k) ks) (length ks)) refl)
-  where
-    by_test : (t : Bool) → nat_lt (position_or_len (nat_eq k) ks) (length ks) ≡ t → IfSome (position (nat_eq k) ks) (λ i. slice_get ks i ≡ Some k)
-    by_test true h = rw h (first_place ks k h)
-    by_test false h = rw h tt

@@ -1,12 +1,18 @@
 -- An item with its key comes in at the lanes.
-use Rattle.std.proofs.Common.{◌≡◌, ℕ, zero, suc, ◌+◌, ◌<◌, Bool, true, false, nat_eq, List, [], ◌∷◌, ◌++◌, map, length, slice_set, slice_get, slice_index_or, Option, Some, None, refl, ap, sym, ◌∙◌, subst, arith, length-append}
+use Rattle.std.proofs.Common.{◌≡◌, ℕ, zero, suc, ◌+◌, ◌<◌, Bool, true, false, nat_eq, List, [], ◌∷◌, ◌++◌, map, length, slice_set, slice_get, slice_index_or, Option, Some, None, Result, Ok, Err, OnOk, refl, ap, sym, ◌∙◌, subst, arith, length-append}
 use Rattle.std.specs.Set.{is_member}
 use Rattle.std.proofs.lemmas.Option.{same_Some}
 use Rattle.std.proofs.lemmas.Bool.{and_parts, eq-eqb, or_parts}
 use Rattle.rsx_sources.specs.Prelude.{Stage, Meaning, chained, Stream, item_then}
+use Rattle.rsx_values.specs.Group.{keyed_items, keyed_then, placed}
+use Rattle.rsx_grouping.specs.GroupBy.{lanes_and_main, main_left, TakesItem}
+use Rattle.rsx_grouping.specs.MainState.{is_coming}
+use Rattle.rsx_grouping.specs.declared.main_state.MainState.{MainState}
+use Rattle.rsx_grouping.specs.declared.main_state.MainState.TheVariants.{Coming, Completed, Failing, Taken}
 use Rattle.rsx_values.specs.Prelude.{InputLeft, numbered, of_key, tagged_items, group_lane, see}
 use Rattle.rsx_queued.specs.Inputs.{here}
-use Rattle.rsx_grouping.proofs.SeenKeys.{other_key, stays_seen, last_seen, key_there, distinct_more}
+use Rattle.rsx_collections.proofs.Places.{key_there}
+use Rattle.rsx_grouping.proofs.SeenKeys.{other_key, stays_seen, last_seen, distinct_more}
 use Rattle.rsx_grouping.specs.Keys.{AreDistinct}
 use Rattle.rsx_grouping.specs.Lane.{lane_left, TakesOne, BeginsWith, is_quiet, after_pick, without_next, GoesOn, PickGoesOn}
 use Rattle.rsx_grouping.specs.Rows.{keys_of, are_quiet, GoOn}
@@ -136,11 +142,6 @@ row_at [] i k r h is = cc
 row_at (q ∷ rows) zero k r h is = (ap Some (sym is), ap (λ z. z.key) is ∙ same_Some q.key k h)
 row_at (q ∷ rows) (suc i) k r h is = row_at rows i k r h is
 
-place_within : {T : Type 0} (rows : List (KeyedLane T)) (i k : ℕ) → slice_get (keys_of rows) i ≡ Some k → i < length rows
-place_within [] i k h = cc
-place_within (q ∷ rows) zero k h = omega arith
-place_within (q ∷ rows) (suc i) k h = let lt = place_within rows i k h in omega arith
-
 -- the lane of the key took the item
 known_taken : {T : Type 0} (m : Meaning T) (gs : List (Stage T)) (rows : List (KeyedLane T)) (i k : ℕ) (r : KeyedLane T) (new : Lane T) (x : T) → AreDistinct (keys_of rows) → slice_get (keys_of rows) i ≡ Some k → r ≡ slice_index_or rows i r → TakesOne m r.lane x new →
     TakesKeyed m gs rows k x (slice_set rows i (record { key = r.key; lane = new }))
@@ -150,16 +151,8 @@ known_taken {T} m gs rows i k r new x d at is takes =
     let P : ℕ → Type 0 = λ z. TakesKeyed m gs rows z x (slice_set rows i (record { key = r.key; lane = new })) in
     subst P found.1 (known_key m gs rows i r new x d seen found.0 takes)
 
-known_keys : {T : Type 0} (rows : List (KeyedLane T)) (i k : ℕ) (r : KeyedLane T) (new : Lane T) → slice_get (keys_of rows) i ≡ Some k → r ≡ slice_index_or rows i r → keys_of (slice_set rows i (record { key = r.key; lane = new })) ≡ keys_of rows
-known_keys rows i k r new at is = let found = row_at rows i k r at is in keys_set rows i r new found.0
-
-known_seen : {T : Type 0} (rows : List (KeyedLane T)) (i k : ℕ) (r : KeyedLane T) (new : Lane T) → slice_get (keys_of rows) i ≡ Some k → r ≡ slice_index_or rows i r → keys_of (slice_set rows i (record { key = r.key; lane = new })) ≡ see (keys_of rows) k
-known_seen rows i k r new at is =
-    let seen : is_member nat_eq (keys_of rows) k ≡ true = key_there (keys_of rows) k i at in
-    rw seen (known_keys rows i k r new at is)
-
 -- nothing waits in it
-quiet_at : {T : Type 0} (rows : List (KeyedLane T)) (i : ℕ) (r : KeyedLane T) → are_quiet rows ≡ true → i < length rows → r ≡ slice_index_or rows i r → is_quiet r.lane ≡ true
+pub quiet_at : {T : Type 0} (rows : List (KeyedLane T)) (i : ℕ) (r : KeyedLane T) → are_quiet rows ≡ true → i < length rows → r ≡ slice_index_or rows i r → is_quiet r.lane ≡ true
 quiet_at [] i r q lt is = absurd (omega arith)
 quiet_at (p ∷ rows) zero r q lt is = ap (λ z. is_quiet z.lane) is ∙ (and_parts (is_quiet p.lane) (are_quiet rows) q).0
 quiet_at (p ∷ rows) (suc i) r q lt is = quiet_at rows i r (and_parts (is_quiet p.lane) (are_quiet rows) q).1 (omega arith) is
@@ -192,7 +185,7 @@ removed ks ks' left now rows rows' k h view out added back same =
     let there : is_member nat_eq ks k ≡ false = ap (λ z. is_member nat_eq z k) h.0 ∙ ap (λ z. is_member nat_eq (keys_of z) k) view ∙ out in
     kept ks left rows rows' h (back ks k (added ∙ see_new ks k there)) same
 
-set_keys : {T : Type 0} (rows : List (KeyedLane T)) (i : ℕ) (r : KeyedLane T) (new : Lane T) → r ≡ slice_index_or rows i r → keys_of (slice_set rows i (record { key = r.key; lane = new })) ≡ keys_of rows
+pub set_keys : {T : Type 0} (rows : List (KeyedLane T)) (i : ℕ) (r : KeyedLane T) (new : Lane T) → r ≡ slice_index_or rows i r → keys_of (slice_set rows i (record { key = r.key; lane = new })) ≡ keys_of rows
 set_keys [] i r new is = refl
 set_keys (q ∷ rows) zero r new is = ap (λ z. z.key ∷ keys_of rows) is
 set_keys (q ∷ rows) (suc i) r new is = ap (λ ks. q.key ∷ ks) (set_keys rows i r new is)
@@ -208,20 +201,11 @@ opened {T} m gs now rows rows' more k x new view out same is begins =
     let whole : now ++ record { key = k; lane = new } ∷ [] ≡ more = sym (is ∙ ap (λ z. z ++ record { key = k; lane = new } ∷ []) (same ∙ view)) in
     subst (TakesKeyed m gs now k x) whole (new_key m gs now k x new out begins)
 
-key_in : {T : Type 0} (ks : List ℕ) (rows : List (KeyedLane T)) (i k : ℕ) → Keeps ks rows → slice_get ks i ≡ Some k → slice_get (keys_of rows) i ≡ Some k
-key_in ks rows i k h at = ap (λ z. slice_get z i) (sym h.0) ∙ at
-
-pub quiet_there : {T : Type 0} (ks : List ℕ) (now rows : List (KeyedLane T)) (i k : ℕ) (r : KeyedLane T) → Keeps ks rows → rows ≡ now → slice_get ks i ≡ Some k → are_quiet now ≡ true → r ≡ slice_index_or rows i r → is_quiet r.lane ≡ true
-quiet_there ks now rows i k r h view at q is = quiet_at rows i r (ap are_quiet view ∙ q) (place_within rows i k (key_in ks rows i k h at)) is
-
-pub taken_there : {T : Type 0} (m : Meaning T) (gs : List (Stage T)) (ks : List ℕ) (now rows : List (KeyedLane T)) (i k : ℕ) (r : KeyedLane T) (new : Lane T) (x : T) → Keeps ks rows → rows ≡ now → slice_get ks i ≡ Some k → r ≡ slice_index_or rows i r → TakesOne m r.lane x new →
+pub taken_there : {T : Type 0} (m : Meaning T) (gs : List (Stage T)) (now rows : List (KeyedLane T)) (i k : ℕ) (r : KeyedLane T) (new : Lane T) (x : T) → AreDistinct (keys_of rows) → rows ≡ now → slice_get (keys_of now) i ≡ Some k → r ≡ slice_index_or rows i r → TakesOne m r.lane x new →
     TakesKeyed m gs now k x (slice_set rows i (record { key = r.key; lane = new }))
-taken_there {T} m gs ks now rows i k r new x h view at is takes =
+taken_there {T} m gs now rows i k r new x d view at is takes =
     let P : List (KeyedLane T) → Type 0 = λ z. TakesKeyed m gs z k x (slice_set rows i (record { key = r.key; lane = new })) in
-    subst P view (known_taken m gs rows i k r new x h.1 (key_in ks rows i k h at) is takes)
-
-pub seen_there : {T : Type 0} (ks : List ℕ) (now rows : List (KeyedLane T)) (i k : ℕ) (r : KeyedLane T) (new : Lane T) → Keeps ks rows → rows ≡ now → slice_get ks i ≡ Some k → r ≡ slice_index_or rows i r → keys_of (slice_set rows i (record { key = r.key; lane = new })) ≡ see (keys_of now) k
-seen_there ks now rows i k r new h view at is = known_seen rows i k r new (key_in ks rows i k h at) is ∙ ap (λ z. see (keys_of z) k) view
+    subst P view (known_taken m gs rows i k r new x d (ap (λ z. slice_get (keys_of z) i) view ∙ at) is takes)
 
 pub set_back : {T : Type 0} (now rows : List (KeyedLane T)) (i : ℕ) (r : KeyedLane T) (new : Lane T) → rows ≡ now → r ≡ slice_index_or rows i r → new ≡ r.lane → slice_set rows i (record { key = r.key; lane = new }) ≡ now
 set_back {T} now rows i r new view is same = ap (λ l. slice_set rows i (record { key = r.key; lane = l })) same ∙ as_it_was rows i is ∙ view
@@ -275,3 +259,23 @@ picked_goes_on {T} old new i r pick at committed rests h = subst GoOn (sym (comm
     by_pick : (p : Option (Lane T)) → PickGoesOn p → GoesOn (after_pick p r.lane).state
     by_pick None k = behind r.lane.waiting
     by_pick (Some l) k = k
+
+-- ---- what the node does
+
+-- an item came into the lane of its key
+pub lane_takes : {T U E : Type 0} (r : Result U E) (m : Meaning T) (f : ℕ) (gs : List (Stage T)) (rows rows' : List (KeyedLane T)) (main : MainState) (x : T) (k : ℕ) → is_coming main ≡ true → m.keyed f x ≡ Ok k → is_member nat_eq (keys_of rows) k ≡ true → OnOk r (keys_of rows' ≡ keys_of rows) → OnOk r (TakesKeyed m gs rows k x rows') →
+    OnOk r (TakesItem m f gs rows main x rows' main)
+lane_takes (Err e) m f gs rows rows' main x k coming key seen keys takes = tt
+lane_takes (Ok u) m f gs rows rows' Completed x k coming key seen keys takes = cc
+lane_takes (Ok u) m f gs rows rows' (Failing c) x k coming key seen keys takes = cc
+lane_takes (Ok u) m f gs rows rows' Taken x k coming key seen keys takes = cc
+lane_takes (Ok u) m f gs rows rows' Coming x k coming key seen keys takes = λ v.
+    let ks = keys_of rows in
+    let after = λ (js : List ℕ). keyed_items (m.keyed f) js v.items v.ending in
+    let w = after ks in
+    let at : placed ks (m.keyed f x) ≡ Ok k = rw (key, seen) refl in
+    let same : see ks k ≡ ks = rw seen refl in
+    let known : keyed_then x ks (placed ks (m.keyed f x)) after ≡ item_then (k, x) w = ap (λ p. keyed_then x ks p after) at ∙ ap (λ js. item_then (k, x) (after js)) same in
+    ap (λ js. lanes_and_main m gs rows' Coming (after js)) keys
+    ∙ sym (takes w (main_left Coming w.ending))
+    ∙ ap (lanes_and_main m gs rows Coming) (sym known)

@@ -1,31 +1,70 @@
 //! The keys of the lanes.
 
-ghost use Rattle.std.specs.Prelude.{◌≡◌};
+ghost use Rattle.std.specs.Prelude.{◌≡◌, IfErr, IfOk};
+ghost use Rattle.rsx_grouping.specs.Keys.{Rises, IsAt, IsGapFor};
 
 use rsx_types::NoMemory;
 use rsx_values::MOST_KEYS;
 use std::alloc::Global;
 use std::marker::Model;
 
-/// The keys of the lanes, in the order in which each came first: a lane's number is the place of its key. There are at most
-/// [`MOST_KEYS`], so they are looked through one after the other. Contracts see the list of them.
+/// A key and the number of its lane.
+#[derive(Clone, Copy, Drop)]
+pub struct NumberedKey {
+    /// The key.
+    pub key: u64,
+    /// The number of its lane.
+    pub lane: usize,
+}
+
+/// Where an item of a key goes.
+#[derive(Clone, Copy, Drop)]
+pub enum KeyPlace {
+    /// Into the lane of this number, which has the key.
+    Lane(usize),
+    /// Into a new lane: none has the key, and there may be one more.
+    New,
+    /// Nowhere: none has the key, and there are [`MOST_KEYS`].
+    Nowhere,
+}
+
+/// The keys of the lanes, in the order in which each came first: a lane's number is the place of its key. Contracts see the list of them.
+///
+/// Beside that list they stand once more, sorted, each with its lane's number, so that a key is found in a few steps however many there
+/// are, and whoever picks the keys can't make it take more.
 #[derive(Drop)]
 pub struct LaneKeys {
+    /// The keys, in their order.
     keys: Vec<u64>,
+    /// The keys with their lanes, the lowest key first.
+    sorted: Vec<NumberedKey>,
 }
 
 impl Model for LaneKeys {
     ghost use Rattle.std.specs.Prelude.{List, ℕ};
+    ghost use Rattle.rsx_grouping.specs.Keys.{IsIndex};
 
     ghost Value = { List ℕ };
 
     ghost view = { λ k. k.keys.items };
+
+    ghost invariant = { λ k. IsIndex k.keys.items k.sorted.items };
+}
+
+/// Where this key stands among these, or where it would stand.
+fn search(sorted: &[NumberedKey], key: u64) -> Result<usize, usize>
+    requires { Rises sorted.now }
+    ensures found { IfOk result (IsAt sorted.now key) }
+    ensures absent { IfErr result (IsGapFor sorted.now key) }
+{
+    sorted.binary_search_by_key(&key, |numbered| numbered.key)
 }
 
 impl LaneKeys {
     ghost use Rattle.std.specs.Prelude.{◌≡◌, ℕ, List, [], ◌∷◌, ◌++◌, nat_eq, slice_get, is_some, Some, IfSome, OnOk, OnErr};
     ghost use Rattle.std.specs.Set.{is_member};
     ghost use Rattle.rsx_values.specs.Group.{see, has_place};
+    ghost use Rattle.rsx_grouping.specs.Keys.{IsPlaceOf};
 
     /// No keys. It takes no memory.
     pub fn new(alloc: Global) -> LaneKeys
@@ -33,6 +72,7 @@ impl LaneKeys {
     {
         LaneKeys {
             keys: Vec::new(alloc),
+            sorted: Vec::new(alloc),
         }
     }
 
@@ -48,12 +88,10 @@ impl LaneKeys {
         ensures lane { IfSome result (λ i. slice_get self.now i ≡ Some key) }
         ensures found { is_some result ≡ is_member nat_eq self.now key }
     {
-        for lane in 0..self.keys.len() {
-            if key == self.keys[lane] {
-                return Some(lane);
-            }
+        match search(self.sorted.as_slice(), key) {
+            Ok(at) => Some(self.sorted[at].lane),
+            Err(_) => None,
         }
-        None
     }
 
     /// Whether a lane has this key, or may have it as one more: the key after the last of [`MOST_KEYS`] is a fault.
@@ -61,6 +99,17 @@ impl LaneKeys {
         ensures { result ≡ has_place self.now key }
     {
         self.keys.len() < MOST_KEYS || self.lane_of(key).is_some()
+    }
+
+    /// Where an item of this key goes.
+    pub fn place_of(&self, key: u64) -> KeyPlace
+        ensures { IsPlaceOf self.now key result }
+    {
+        match self.lane_of(key) {
+            Some(lane) => KeyPlace::Lane(lane),
+            None if self.keys.len() < MOST_KEYS => KeyPlace::New,
+            None => KeyPlace::Nowhere,
+        }
     }
 
     /// Puts a key last, unless it is there.
@@ -71,9 +120,15 @@ impl LaneKeys {
         ensures keys { OnOk result (self.new ≡ see self.old key) }
         ensures same { OnErr result (self.new ≡ self.old) }
     {
-        if self.lane_of(key).is_none() {
-            self.keys.push(key)?;
+        let Err(at) = search(self.sorted.as_slice(), key) else {
+            return Ok(());
+        };
+        self.keys.reserve(1)?;
+        let lane = self.keys.len();
+        if self.sorted.insert(at, NumberedKey { key, lane }).is_err() {
+            return Err(NoMemory);
         }
+        self.keys.push_reserved(key);
         Ok(())
     }
 
@@ -81,6 +136,11 @@ impl LaneKeys {
     pub fn remove_last(&mut self)
         ensures { (ks : List ℕ) (k : ℕ) → self.old ≡ ks ++ k ∷ [] → self.new ≡ ks }
     {
-        let _key = self.keys.pop();
+        let Some(key) = self.keys.pop() else {
+            return;
+        };
+        if let Ok(at) = search(self.sorted.as_slice(), key) {
+            let _numbered = self.sorted.remove(at);
+        }
     }
 }

@@ -27,7 +27,7 @@ pub mod rest;
 pub mod table;
 pub mod waiting;
 
-pub use keys::LaneKeys;
+pub use keys::{KeyPlace, LaneKeys};
 pub use lane::{Lane, LanePick, LaneState, Laning};
 pub use main_state::MainState;
 pub use node::GroupByNode;

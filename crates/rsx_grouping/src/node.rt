@@ -8,6 +8,7 @@ ghost use Rattle.rsx_grouping.specs.declared.node.GroupByNode.{GroupByNode as Gr
 ghost use Rattle.rsx_values.specs.declared.limits.TheConstants.{MOST_KEYS};
 ghost use Rattle.rsx_grouping.specs.MainState.{is_coming};
 
+use crate::keys::KeyPlace;
 use crate::main_state::MainState;
 use crate::{LaneTable, Resting, TakingKeyed};
 use rsx_demand::saturating_total;
@@ -190,16 +191,14 @@ impl<T: Drop> TakingIn<T> for GroupByNode<T> {
             return Ok(());
         }
         match ops.key(self.function, &item) {
-            Ok(key) => {
-                if !self.table.has_place(key) {
+            Ok(key) => match self.table.place_of(key) {
+                KeyPlace::Lane(at) => self.table.take_at(alloc, ops, at, item),
+                KeyPlace::New => self.table.open(alloc, ops, &self.stages, key, item),
+                KeyPlace::Nowhere => {
                     self.main = MainState::Failing(Cause::Function(TOO_MANY_KEYS));
-                    return Ok(());
+                    Ok(())
                 }
-                match self.table.take_keyed(alloc, ops, &self.stages, key, item) {
-                    Ok(()) => Ok(()),
-                    Err(item) => Err(item),
-                }
-            }
+            },
             Err(Fault::Code(fault)) => {
                 self.main = MainState::Failing(Cause::Function(fault));
                 Ok(())

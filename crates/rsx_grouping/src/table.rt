@@ -2,15 +2,16 @@
 
 ghost use Rattle.std.specs.Prelude.{◌≡◌, ◌<◌, ◌^◌, ◌++◌, ◌∷◌, ℕ, true, false, [], length, nat_eq, slice_get, slice_set, IfOk, IfErr, IfNone, IfSome, OnOk, OnErr, List};
 ghost use Rattle.std.specs.Set.{is_member};
-ghost use Rattle.rsx_values.specs.Group.{see, has_place};
-ghost use Rattle.rsx_grouping.specs.Keys.{AreDistinct};
+ghost use Rattle.rsx_types.specs.declared.stage.Stage.{Stage as StageSpec};
+ghost use Rattle.rsx_values.specs.Group.{see};
+ghost use Rattle.rsx_grouping.specs.Keys.{AreDistinct, IsPlaceOf};
 ghost use Rattle.rsx_grouping.specs.Lane.{PickGoesOn};
 ghost use Rattle.rsx_grouping.specs.Rows.{keys_of, are_quiet, are_gone, is_gone_at, is_quiet_at, is_told, can_pick_at, GoOn, waiting_after};
 ghost use Rattle.rsx_grouping.specs.Table.{TakesKeyed, TakesFirstAt, CommitsAt};
 ghost use Rattle.rsx_grouping.specs.declared.table.KeyedLane.{KeyedLane as KeyedLaneSpec};
 ghost use Rattle.rsx_grouping.specs.declared.table.MayWait.TheVariants as MayWait;
 
-use crate::keys::LaneKeys;
+use crate::keys::{KeyPlace, LaneKeys};
 use crate::lane::{Lane, LanePick, Laning};
 use rsx_types::{NoMemory, Ops, Stage};
 use std::alloc::Global;
@@ -228,11 +229,11 @@ impl<T: Drop> LaneTable<T> {
         waiting_after(self.rows.as_slice(), 0)
     }
 
-    /// Whether a lane has this key, or may have it as one more ([`LaneKeys::has_place`]).
-    pub fn has_place(&self, key: u64) -> bool
-        ensures { result ≡ has_place (keys_of self.now) key }
+    /// Where an item of this key goes.
+    pub fn place_of(&self, key: u64) -> KeyPlace
+        ensures { IsPlaceOf (keys_of self.now) key result }
     {
-        self.keys.has_place(key)
+        self.keys.place_of(key)
     }
 
     /// Whether nothing waits in any lane. It looks at one lane at most, but where it isn't known in which something may wait.
@@ -300,19 +301,19 @@ pub trait TakingKeyed<T: Drop> {
         ensures err { IfErr result (λ x. x ≡ item) }
         ensures same { OnErr result (self.new ≡ self.old) };
 
-    /// Puts an item into the lane of its key, which it opens where there is none. Nothing waits. For want of memory the item comes
-    /// back, and nothing has changed.
-    fn take_keyed<O: Ops<Item = T>>(
+    /// Puts an item into the lane at this place, which has its key. Nothing waits. For want of memory the item comes back, and nothing
+    /// has changed.
+    fn take_at<O: Ops<Item = T>>(
         &mut self,
         alloc: Global,
         ops: &O,
-        stages: &[Stage<T>],
-        key: u64,
+        at: usize,
         item: T,
     ) -> Result<(), T>
-        requires { are_quiet (rows self.old) ≡ true }
-        ensures ok { OnOk result (TakesKeyed (O.meaning ops.now) stages.now (rows self.old) key item (rows self.new)) }
-        ensures keys { OnOk result (keys_of (rows self.new) ≡ see (keys_of (rows self.old)) key) }
+        requires quiet { are_quiet (rows self.old) ≡ true }
+        requires within { at < length (rows self.old) }
+        ensures ok { (gs : List (StageSpec T)) (k : ℕ) → slice_get (keys_of (rows self.old)) at ≡ Some k → OnOk result (TakesKeyed (O.meaning ops.now) gs (rows self.old) k item (rows self.new)) }
+        ensures keys { OnOk result (keys_of (rows self.new) ≡ keys_of (rows self.old)) }
         ensures goes_on { OnOk result (GoOn (rows self.old) → GoOn (rows self.new)) }
         ensures err { IfErr result (λ x. x ≡ item) }
         ensures same { OnErr result (self.new ≡ self.old) };
@@ -371,28 +372,23 @@ impl<T: Drop> TakingKeyed<T> for LaneTable<T> {
         }
     }
 
-    fn take_keyed<O: Ops<Item = T>>(
+    fn take_at<O: Ops<Item = T>>(
         &mut self,
         alloc: Global,
         ops: &O,
-        stages: &[Stage<T>],
-        key: u64,
+        at: usize,
         item: T,
     ) -> Result<(), T>
-        requires { are_quiet self.old ≡ true }
-        ensures ok { OnOk result (TakesKeyed (O.meaning ops.now) stages.now self.old key item self.new) }
-        ensures keys { OnOk result (keys_of self.new ≡ see (keys_of self.old) key) }
+        requires quiet { are_quiet self.old ≡ true }
+        requires within { at < length self.old }
+        ensures ok { (gs : List (StageSpec T)) (k : ℕ) → slice_get (keys_of self.old) at ≡ Some k → OnOk result (TakesKeyed (O.meaning ops.now) gs self.old k item self.new) }
+        ensures keys { OnOk result (keys_of self.new ≡ keys_of self.old) }
         ensures goes_on { OnOk result (GoOn self.old → GoOn self.new) }
         ensures err { IfErr result (λ x. x ≡ item) }
         ensures same { OnErr result (self.new ≡ self.old) }
     {
-        match self.keys.lane_of(key) {
-            Some(at) => {
-                self.may_wait = MayWait::At(at);
-                self.rows[at].lane.take_item(alloc, ops, item)
-            }
-            None => self.open(alloc, ops, stages, key, item),
-        }
+        self.may_wait = MayWait::At(at);
+        self.rows[at].lane.take_item(alloc, ops, item)
     }
 
     fn prepare<O: Ops<Item = T>>(
