@@ -5,7 +5,7 @@ ghost use Rattle.rsx_live.specs.Starts.{IsStarted};
 
 use crate::threads::{Order, serve_order};
 use rsx_demo::{Demo, Val};
-use rsx_live::{LiveGraph, NotStarted, Poked, StartedGraph};
+use rsx_live::{LiveGraph, NotStarted, PokeAnswer, Poked, StartedGraph};
 use rsx_session::{Session, SessionRest};
 use rsx_types::{NoMemory, Signal, SubId};
 use std::alloc::Global;
@@ -107,7 +107,7 @@ fn serve_until_idle<R: Threads + Wait + Sync + Clock>(
     for _ in 0..u64::MAX {
         let (served, _) = serve_order(rt, alloc, started, nothing)?;
         started = served;
-        if !poke_each(alloc, &mut started, 1)? {
+        if !poke_each(alloc, &mut started, 1)?.busy {
             return passed_on(alloc, started);
         }
     }
@@ -247,43 +247,54 @@ fn receive_all(
     Ok(())
 }
 
-/// Pokes the regions in turns until none has anything to do. What is requested goes over at least one edge in each round, which no poke
-/// counts as a move, so there are as many rounds behind the last move as there are edges to go over, and one more.
+/// What a round of pokes came to.
+#[derive(Clone, Copy)]
+struct Round {
+    /// Some poke used its budget up. With a budget of 1 it made a move, or took a signal from a link.
+    busy: bool,
+    /// Some poke touched a link with a region, which has to be poked behind it.
+    touched: bool,
+}
+
+/// Pokes the regions in turns until none has anything to do: until a round in which no budget was used up, and no link with a region was
+/// touched.
 fn poke_until_idle(alloc: Global, started: &mut StartedGraph<Demo>) -> Result<(), NoMemory>
     requires { IsStarted started.old }
     ensures { IsStarted started.new }
 {
-    let edges = started.live.cuts();
-    let mut idle: usize = 0;
     for _ in 0..u64::MAX {
-        if idle > edges {
+        let round = poke_each(alloc, started, BUDGET)?;
+        if !round.busy && !round.touched {
             break;
         }
-        let went = poke_each(alloc, started, BUDGET)?;
-        let goes_on = poke_each(alloc, started, 1)?;
-        idle = if went || goes_on {
-            0
-        } else {
-            idle.saturating_add(1)
-        };
     }
     Ok(())
 }
 
-/// Pokes each region once, and answers whether one of them used its budget up. With a budget of 1 that is one which made a move, or took a
-/// signal from a link.
-fn poke_each(alloc: Global, started: &mut StartedGraph<Demo>, budget: u32) -> Result<bool, NoMemory>
+/// Pokes each region once.
+fn poke_each(
+    alloc: Global,
+    started: &mut StartedGraph<Demo>,
+    budget: u32,
+) -> Result<Round, NoMemory>
     requires { IsStarted started.old }
     ensures { IsStarted started.new }
 {
     let regions = started.regions();
-    let mut busy = false;
+    let mut round = Round {
+        busy: false,
+        touched: false,
+    };
     for region in 0..regions {
-        match started.poke(alloc, region, budget) {
-            None | Some(Poked::Idle) => {}
-            Some(Poked::NoMemory) => return Err(NoMemory),
-            Some(Poked::Noted | Poked::More | Poked::Budget) => busy = true,
+        let Some(Poked { answer, rouse }) = started.poke(alloc, region, budget) else {
+            continue;
+        };
+        round.touched |= rouse != 0;
+        match answer {
+            PokeAnswer::Idle => {}
+            PokeAnswer::NoMemory => return Err(NoMemory),
+            PokeAnswer::Noted | PokeAnswer::More | PokeAnswer::Budget => round.busy = true,
         }
     }
-    Ok(busy)
+    Ok(round)
 }

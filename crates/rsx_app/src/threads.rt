@@ -135,8 +135,7 @@ fn take_all<R: Clock>(
     Taken { taps, signals }
 }
 
-/// Takes in turns, each with a pause where nothing came in it. The workers are roused in each turn, since one that only passes a request
-/// on rouses nobody.
+/// Takes in turns, each with a pause where nothing came in it. The workers are roused in each turn, since a tap that took makes room.
 fn take_turns<R: Clock>(
     rt: &R,
     graph: &LiveGraph<Demo>,

@@ -39,4 +39,4 @@ pub use returning::come_back;
 pub use serving::serve_regions;
 
 // What the calls of a live graph answer, and the taps of its subscriptions.
-pub use rsx_runtime::{Poked, Tap};
+pub use rsx_runtime::{PokeAnswer, Poked, Tap};

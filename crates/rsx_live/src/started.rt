@@ -46,7 +46,7 @@ impl<O: Ops> StartedGraph<O> {
         ensures started { IsStarted self.new }
         ensures stays { StaysStarted self.old self.new }
         ensures same { (self.new.live ≡ self.old.live) × (self.new.taps ≡ self.old.taps) }
-        ensures some { IfSome result (λ p. ChangesAt region self.old.seats.items self.new.seats.items (λ was now. Went p was.me.0.steps now.me.0.steps)) }
+        ensures some { IfSome result (λ p. ChangesAt region self.old.seats.items self.new.seats.items (λ was now. Went p.answer was.me.0.steps now.me.0.steps)) }
         ensures none { IfNone result ((length self.old.seats.items ≤ region) × (self.new ≡ self.old)) }
     {
         let place = usize::from(region);
@@ -193,7 +193,7 @@ fn poke_at<N: Nodes<Item = T>, T: Drop, O: Ops<Item = T>>(
     requires seats { AllZip (λ g s. IsSeatOf g s × (all_parts ≤ s.me.0.parts)) live.now.gates.items seats.old.items }
     requires there { region < length seats.old.items }
     ensures seats { AllZip (λ g s. IsSeatOf g s × (all_parts ≤ s.me.0.parts)) live.now.gates.items seats.new.items }
-    ensures went { ChangesAt region seats.old.items seats.new.items (λ was now. Went result was.me.0.steps now.me.0.steps) }
+    ensures went { ChangesAt region seats.old.items seats.new.items (λ was now. Went result.answer was.me.0.steps now.me.0.steps) }
 {
     live.poke(alloc, region, &mut seats[usize::from(region)], budget)
 }

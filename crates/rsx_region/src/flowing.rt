@@ -7,7 +7,7 @@ ghost use Rattle.rsx_region.specs.Steps.{Goes};
 ghost use Rattle.rsx_region.specs.declared.piece.Piece.{Piece as PieceSpec};
 
 use crate::piece::Piece;
-use crate::serving::{Answer, Served, outcome};
+use crate::serving::{Answer, PieceServed, outcome};
 use rsx_link::Link;
 use rsx_pipe::Nodes;
 use rsx_types::Ops;
@@ -25,7 +25,7 @@ impl<N: Nodes<Item = T>, T: Drop> Piece<N, T> {
         ops: &O,
         links: &[Link<T>],
         budget: u32,
-    ) -> Served
+    ) -> PieceServed
         requires { IsPieceOf links.now self.old }
         ensures ends { IsPieceOf links.now self.new }
         ensures run { Goes N.Machine (O.meaning ops.now) links.now result.moves result.pops self.old self.new }
@@ -59,7 +59,7 @@ impl<N: Nodes<Item = T>, T: Drop> Piece<N, T> {
         ops: &O,
         links: &[Link<T>],
         budget: u32,
-    ) -> Served
+    ) -> PieceServed
         requires { IsPieceOf links.now self.old }
         ensures ends { IsPieceOf links.now self.new }
         ensures run { Goes N.Machine (O.meaning ops.now) links.now result.moves result.pops self.old self.new }

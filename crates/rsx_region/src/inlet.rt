@@ -102,6 +102,13 @@ impl<T: Drop> Inlet<T> {
         (self.down, self.closer)
     }
 
+    /// Whether it cancelled the link.
+    pub(crate) fn is_cancelled(&self) -> bool
+        ensures { result ≡ self.now.cancelled }
+    {
+        self.cancelled
+    }
+
     /// Takes the oldest signal from the link and hands it to the node that reads the link, and answers whether it did. It takes one
     /// only where that node has room for an item, so that nothing has ever to be put back into the link. Where the root edge of the
     /// part isn't live nothing changes.

@@ -25,9 +25,9 @@
 //!   [`outgoing::work_at`], a move inside that is named, and [`outgoing::pull`], by which an item goes through the part in one go.
 //! - [`part_steps`]: [`part_steps::serve`], many moves of a part in a row, each as [`part_steps::step`] makes one.
 //! - [`piece`]: [`Piece`] and [`Incoming`].
-//! - [`region`]: [`Region`], the pieces of a region.
+//! - [`region`]: [`Region`], the pieces of a region, and [`Served`], what a serve of them did.
 //! - [`step`]: [`Step`], by which contracts tell what was done.
-//! - [`serving`]: [`Piece::serve`], with its answer [`Served`].
+//! - [`serving`]: [`Piece::serve`], with its answer [`PieceServed`].
 //! - [`spreading`]: [`spread`] and [`gather`], by which pieces are put into regions and taken out again.
 //! - [`trees`]: [`CutTrees`], trees that are cut at one edge after the other, and joined again.
 //!
@@ -52,6 +52,7 @@ pub mod region;
 pub mod serving;
 pub mod spreading;
 pub mod step;
+mod touched;
 pub mod trees;
 
 pub use cutting::NotCut;
@@ -59,8 +60,8 @@ pub use halves::{Below, LINK_PLACES};
 pub use inlet::Inlet;
 pub use opening::Opening;
 pub use piece::{Incoming, Piece};
-pub use region::Region;
-pub use serving::{Answer, Served};
+pub use region::{Region, Served};
+pub use serving::{Answer, PieceServed};
 pub use spreading::{gather, spread};
 pub use step::Step;
 pub use trees::{CutEdge, CutTrees, NotJoined};

@@ -25,9 +25,9 @@ pub enum Answer {
     NoMemory,
 }
 
-/// What a call did.
+/// What a call did for a piece.
 #[derive(Clone, Copy, Debug, PartialEq, Eq)]
-pub struct Served {
+pub struct PieceServed {
     /// Why it ended.
     pub answer: Answer,
     /// How many moves it made.
@@ -51,7 +51,7 @@ impl<N: Nodes<Item = T>, T: Drop> Piece<N, T> {
         ops: &O,
         links: &[Link<T>],
         budget: u32,
-    ) -> Served
+    ) -> PieceServed
         requires { IsPieceOf links.now self.old }
         ensures ends { IsPieceOf links.now self.new }
         ensures run { Goes N.Machine (O.meaning ops.now) links.now result.moves result.pops self.old self.new }
@@ -89,7 +89,7 @@ impl<N: Nodes<Item = T>, T: Drop> Piece<N, T> {
         ops: &O,
         links: &[Link<T>],
         budget: u32,
-    ) -> Served
+    ) -> PieceServed
         requires { IsPieceOf links.now self.old }
         ensures ends { IsPieceOf links.now self.new }
         ensures run { Goes N.Machine (O.meaning ops.now) links.now result.moves result.pops self.old self.new }
@@ -129,7 +129,7 @@ impl<N: Nodes<Item = T>, T: Drop> Piece<N, T> {
     /// Takes a signal from each link whose reader has room for one, but at most `budget`. Answers [`Answer::Idle`] where each was
     /// tried.
     #[inline]
-    pub(crate) fn pop_each(&mut self, links: &[Link<T>], budget: u32) -> Served
+    pub(crate) fn pop_each(&mut self, links: &[Link<T>], budget: u32) -> PieceServed
         requires { IsPieceOf links.now self.old }
         ensures ends { IsPieceOf links.now self.new }
         ensures run { (m : Meaning T) → Goes N.Machine m links.now 0 result.pops self.old self.new }
@@ -159,7 +159,7 @@ impl<N: Nodes<Item = T>, T: Drop> Piece<N, T> {
         ops: &O,
         links: &[Link<T>],
         budget: u32,
-    ) -> Served
+    ) -> PieceServed
         requires { IsPieceOf links.now self.old }
         ensures ends { IsPieceOf links.now self.new }
         ensures run { Goes N.Machine (O.meaning ops.now) links.now result.moves result.pops self.old self.new }
@@ -194,7 +194,7 @@ impl<N: Nodes<Item = T>, T: Drop> Piece<N, T> {
         ops: &O,
         links: &[Link<T>],
         budget: u32,
-    ) -> Served
+    ) -> PieceServed
         requires some { 0 < budget }
         requires ends { IsPieceOf links.now self.old }
         ensures ends { IsPieceOf links.now self.new }
@@ -216,10 +216,10 @@ impl<N: Nodes<Item = T>, T: Drop> Piece<N, T> {
 }
 
 /// So much was done.
-pub(crate) fn outcome(answer: Answer, moves: u32, pops: u32) -> Served
+pub(crate) fn outcome(answer: Answer, moves: u32, pops: u32) -> PieceServed
     ensures { (result.answer ≡ answer) × (result.moves ≡ moves) × (result.pops ≡ pops) }
 {
-    Served {
+    PieceServed {
         answer,
         moves,
         pops,

@@ -8,14 +8,44 @@ ghost use Rattle.rsx_region.specs.declared.piece.Piece.{Piece as PieceSpec};
 
 use crate::piece::Piece;
 use crate::region::Region;
+use crate::touched::know_ends;
+use rsx_pipe::Nodes;
 use rsx_types::NoMemory;
+use std::alloc::Global;
 
 /// Puts each piece into the region at its place, the last piece first. So a piece of [`CutTrees`](crate::CutTrees) stands behind those in
-/// its region that were cut off it. The list of the pieces keeps its room. It calls itself once for each piece.
+/// its region that were cut off it. The list of the pieces keeps its room. There are so many links in all; each region looks which regions
+/// are at the other ends of its own.
 ///
 /// # Errors
 /// [`NoMemory`] where a growth was refused. All pieces are where they were.
-pub fn spread<N: Drop, T: Drop>(
+pub fn spread<N: Nodes<Item = T> + Drop, T: Drop>(
+    alloc: Global,
+    pieces: &mut Vec<Piece<N, T>>,
+    places: &[u8],
+    regions: &mut [Region<N, T>],
+    links: usize,
+) -> Result<(), NoMemory>
+    requires count { length places.now ≡ length pieces.old.items }
+    requires there { Each (λ p. p < length regions.old) places.now }
+    ensures ok { OnOk result (AreIn (rows_of regions.old) places.now pieces.old.items (rows_of regions.new) × (pieces.new.items ≡ [])) }
+    ensures err { OnErr result ((rows_of regions.new ≡ rows_of regions.old) × (pieces.new.items ≡ pieces.old.items)) }
+    ensures numbers { numbers_in regions.new ≡ numbers_in regions.old }
+    ensures room { vec_capacity pieces.new ≡ vec_capacity pieces.old }
+{
+    put_each(pieces, places, regions)?;
+    if let Err(why) = know_ends(alloc, regions, links) {
+        gather(pieces, places, regions);
+        return Err(why);
+    }
+    Ok(())
+}
+
+/// The same, without a look at the links. It calls itself once for each piece.
+///
+/// # Errors
+/// [`NoMemory`] where a growth was refused. All pieces are where they were.
+fn put_each<N: Drop, T: Drop>(
     pieces: &mut Vec<Piece<N, T>>,
     places: &[u8],
     regions: &mut [Region<N, T>],
@@ -37,7 +67,7 @@ pub fn spread<N: Drop, T: Drop>(
         pieces.push_reserved(piece);
         return Err(NoMemory);
     }
-    if let Err(why) = spread(pieces, others, regions) {
+    if let Err(why) = put_each(pieces, others, regions) {
         if let Some(piece) = take_from(regions, *place) {
             pieces.push_reserved(piece);
         }

@@ -10,7 +10,7 @@ ghost use Rattle.rsx_region.specs.Regions.{ArePiecesOf, IsServedAt, RegionGoes};
 use crate::cutting::NotCut;
 use crate::halves::Below;
 use crate::piece::Piece;
-use crate::serving::{Answer, Served};
+use crate::serving::{Answer, PieceServed};
 use rsx_link::Link;
 use rsx_pipe::CrossingNodes;
 use rsx_queued::ItemQueue;
@@ -79,7 +79,7 @@ impl<N: CrossingNodes<Item = T> + Drop, T: Drop> CutTrees<N, T> {
         alloc: Global,
         ops: &O,
         budget: u32,
-    ) -> Served
+    ) -> PieceServed
         requires ends { ArePiecesOf self.old.links.items self.old.pieces.items }
         requires there { at < length self.old.pieces.items }
         ensures ends { ArePiecesOf self.new.links.items self.new.pieces.items }

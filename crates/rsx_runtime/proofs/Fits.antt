@@ -10,7 +10,7 @@ use Rattle.rsx_region.specs.Regions.{ArePiecesOf, RegionFits, RegionStands}
 use Rattle.rsx_region.specs.declared.opening.Opening.{Opening}
 use Rattle.rsx_region.specs.declared.piece.Piece.{Piece}
 use Rattle.rsx_region.specs.declared.region.Region.{Region}
-use Rattle.rsx_region.specs.declared.serving.Served.{Served}
+use Rattle.rsx_region.specs.declared.region.Served.{Served}
 use Rattle.rsx_runtime.specs.Passing.{HasServed, IsServed, SeatOf}
 use Rattle.rsx_runtime.specs.Poking.{Fits, HasFitting, IsGateOf}
 

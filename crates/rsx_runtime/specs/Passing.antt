@@ -15,7 +15,7 @@ use Rattle.rsx_region.specs.declared.opening.Opening.{Opening}
 use Rattle.rsx_region.specs.declared.region.Region.{Region}
 use Rattle.rsx_region.specs.declared.serving.Answer.{Answer}
 use Rattle.rsx_region.specs.declared.serving.Answer.TheVariants.{Idle, Budget, NoMemory}
-use Rattle.rsx_region.specs.declared.serving.Served.{Served}
+use Rattle.rsx_region.specs.declared.region.Served.{Served}
 use Rattle.rsx_region.specs.contracts.region.Region.{the_row as region_row}
 use Rattle.rsx_region.specs.contracts.opening.Opening.{the_row as opening_row}
 use Rattle.rsx_runtime.specs.Poking.{Fits, HasFitting, IsAmong}

@@ -13,8 +13,8 @@ use Rattle.rsx_region.specs.Regions.{RegionFits}
 use Rattle.rsx_region.specs.declared.opening.Opening.{Opening}
 use Rattle.rsx_region.specs.declared.region.Region.{Region}
 use Rattle.rsx_runtime.specs.declared.TheConstants.{ROUNDS}
-use Rattle.rsx_runtime.specs.declared.live.Poked.{Poked}
-use Rattle.rsx_runtime.specs.declared.live.Poked.TheVariants.{Idle, Noted, More, Budget, NoMemory}
+use Rattle.rsx_runtime.specs.declared.live.PokeAnswer.{PokeAnswer}
+use Rattle.rsx_runtime.specs.declared.live.PokeAnswer.TheVariants.{Idle, Noted, More, Budget, NoMemory}
 
 -- so many rounds above older steps: each a mark, and a leave that found a note
 abbrev pub AfterRounds : ℕ → List Step → List Step → Type 0
@@ -26,7 +26,7 @@ abbrev pub GivesUp : List Step → List Step → Type 0
 GivesUp old steps = (k : ℕ) × (i : ℕ) × (n : ℕ) × (before : List Step) × (k < ROUNDS) × IsHeld i × IsHeld n × AfterRounds k (Enter 0 ∷ old) before × (steps ≡ GiveUp n ∷ Mark i ∷ before)
 
 -- An enter that found the gate held; or one that found it free, and then rounds, up to a leave that freed the gate, or to a giving up.
-abbrev pub Went : Poked → List Step → List Step → Type 0
+abbrev pub Went : PokeAnswer → List Step → List Step → Type 0
 Went Noted old steps = (n : ℕ) × IsHeld n × (steps ≡ Enter n ∷ old)
 Went Idle old steps = (k : ℕ) × (n : ℕ) × (before : List Step) × (k < ROUNDS) × IsHeld n × AfterRounds k (Enter 0 ∷ old) before × (steps ≡ Leave 1 ∷ Mark n ∷ before)
 Went More old steps = (k : ℕ) × (n : ℕ) × (before : List Step) × IsHeld n × AfterRounds k (Enter 0 ∷ old) before × (k ≡ ROUNDS) × (steps ≡ GiveUp n ∷ before)

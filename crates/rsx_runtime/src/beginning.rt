@@ -54,10 +54,7 @@ impl<N: Nodes<Item = T> + Drop, T: Drop, O: Ops<Item = T>> Gated<N, T, O> {
         let seats = Vec::with_capacity(alloc, usize::from(count))?;
         let mut regions = Vec::with_capacity(alloc, usize::from(count))?;
         for number in 0..count {
-            regions.push_reserved(Region {
-                number,
-                pieces: Vec::new(alloc),
-            });
+            regions.push_reserved(Region::new(alloc, number, Vec::new(alloc)));
         }
         Ok(Gated {
             gates,
@@ -198,7 +195,7 @@ impl<N: CrossingNodes<Item = T> + Drop, T: Drop, O: Ops<Item = T>> Live<N, T, O>
             links,
             edges,
         } = trees;
-        if spread(&mut pieces, &places, &mut room.regions).is_err() {
+        if spread(alloc, &mut pieces, &places, &mut room.regions, links.len()).is_err() {
             let trees = CutTrees {
                 pieces,
                 links,

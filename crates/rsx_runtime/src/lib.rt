@@ -6,8 +6,10 @@
 //! note for the one that does. By [`Live::enter`] it gets the pass of a region, with which it makes the same steps one by one
 //! ([`RegionPass`]).
 //!
-//! [`work`] is the loop of a worker: it pokes one region again and again, and rests where nothing is left to do. [`ParkRest`] rests on
-//! a parker, and a [`Rouser`] rouses and stops such workers from other threads.
+//! A poke answers which regions have to be poked behind it ([`Poked`]): those with which it touched a link.
+//!
+//! [`work`] is the loop of a worker: it pokes one region again and again, rouses the workers of the regions that a poke named, and rests
+//! where nothing is left to do. [`ParkRest`] rests on a parker, and a [`Rouser`] rouses and stops such workers from other threads.
 //!
 //! [`serve_on_threads`] gives each region of a [`Live`] such a worker, which rests on a parker ([`Parkers`]), starts a thread for each,
 //! and runs `main` on the calling thread meanwhile. As `main` returns all workers are stopped, and once they have ended all seats come
@@ -45,7 +47,7 @@ pub mod worker;
 pub use beginning::Begun;
 pub use closing::Plan;
 pub use emitter::{Emitter, NotEnded};
-pub use live::{Live, Poked, RegionGate, RegionSeat};
+pub use live::{Live, PokeAnswer, Poked, RegionGate, RegionSeat};
 pub use park::{ParkRest, Rouser};
 pub use parkers::Parkers;
 pub use pass::{RegionLeft, RegionPass};

@@ -1,6 +1,6 @@
 //! The regions with their gates, and how a thread works on one.
 
-ghost use Rattle.std.specs.Prelude.{◌≡◌, ◌<◌, ◌||◌, nat_lt, ⊤, [], IfErr, IfOk, MatchBool, Some, length, slice_get};
+ghost use Rattle.std.specs.Prelude.{◌≡◌, ◌<◌, ⊤, [], IfErr, IfOk, MatchBool, Some, length, slice_get};
 ghost use Rattle.rsx_gate.specs.Machine.{founder};
 ghost use Rattle.rsx_gate.specs.Seats.{Holds, IsGone, IsMissed, IsSeatOf, Marked, key_of};
 ghost use Rattle.rsx_region.specs.Pieces.{Each, IsAt, none_taken};
@@ -23,9 +23,9 @@ pub type RegionGate<N, T, O> = Gate<Region<N, T>, Opening<N, T, O>>;
 /// What a thread enters such a gate by.
 pub type RegionSeat<N, T, O> = Seat<Region<N, T>, Opening<N, T, O>>;
 
-/// What a poke came to.
+/// Why a poke ended.
 #[derive(Clone, Copy, Debug, PartialEq, Eq)]
-pub enum Poked {
+pub enum PokeAnswer {
     /// Another seat had the region. A note is left for it, and it will look for work once more.
     Noted,
     /// All was done that there was to do, and no one poked the region since it was looked for.
@@ -38,13 +38,13 @@ pub enum Poked {
     NoMemory,
 }
 
-/// What a visit of a region came to.
-#[derive(Clone, Copy)]
-pub(crate) struct Visited {
-    /// What a poke answers.
-    pub(crate) poked: Poked,
-    /// Whether it made a move or took a signal from a link.
-    pub(crate) busy: bool,
+/// What a poke of a region came to.
+#[derive(Clone, Copy, Debug, PartialEq, Eq)]
+pub struct Poked {
+    /// Why it ended.
+    pub answer: PokeAnswer,
+    /// Which regions have to be poked behind it, as [`Served::rouse`] says: region w by the bit of 2^w.
+    pub rouse: u16,
 }
 
 /// A graph whose regions are worked on by several threads. It is shared by reference.
@@ -119,6 +119,9 @@ impl<N: Nodes<Item = T>, T: Drop, O: Ops<Item = T>> Live<N, T, O> {
     /// Works on the region at this place, by a seat of its gate: where no other seat has the region, it is served by
     /// [`Region::serve`] until nothing is left to do and no one poked it meanwhile, and at most [`ROUNDS`] times. The seat has no
     /// pass before or after, and keeps its parts; it made just the steps that the answer tells of. No call waits.
+    ///
+    /// A poke that was told [`PokeAnswer::Idle`] may still have asked for more over a link between two pieces of the region: the region's
+    /// own bit of `rouse` is set then.
     pub fn poke(
         &self,
         alloc: Global,
@@ -129,23 +132,7 @@ impl<N: Nodes<Item = T>, T: Drop, O: Ops<Item = T>> Live<N, T, O> {
         requires { IsAmong self.now.gates.items region (λ g. IsSeatOf g seat.old) }
         ensures seat { IsAmong self.now.gates.items region (λ g. IsSeatOf g seat.new) }
         ensures parts { seat.new.me.0.parts ≡ seat.old.me.0.parts }
-        ensures steps { Went result seat.old.me.0.steps seat.new.me.0.steps }
-    {
-        self.visit(alloc, region, seat, budget).poked
-    }
-
-    /// A poke that says whether it was busy.
-    pub(crate) fn visit(
-        &self,
-        alloc: Global,
-        region: u8,
-        seat: &mut RegionSeat<N, T, O>,
-        budget: u32,
-    ) -> Visited
-        requires { IsAmong self.now.gates.items region (λ g. IsSeatOf g seat.old) }
-        ensures seat { IsAmong self.now.gates.items region (λ g. IsSeatOf g seat.new) }
-        ensures parts { seat.new.me.0.parts ≡ seat.old.me.0.parts }
-        ensures steps { Went result.poked seat.old.me.0.steps seat.new.me.0.steps }
+        ensures steps { Went result.answer seat.old.me.0.steps seat.new.me.0.steps }
     {
         visit(
             alloc,
@@ -158,7 +145,7 @@ impl<N: Nodes<Item = T>, T: Drop, O: Ops<Item = T>> Live<N, T, O> {
     }
 }
 
-/// The same of one gate.
+/// A poke of the region behind this gate.
 fn visit<N: Nodes<Item = T>, T: Drop, O: Ops<Item = T>>(
     alloc: Global,
     ops: &O,
@@ -166,61 +153,54 @@ fn visit<N: Nodes<Item = T>, T: Drop, O: Ops<Item = T>>(
     links: &[Link<T>],
     seat: &mut RegionSeat<N, T, O>,
     budget: u32,
-) -> Visited
+) -> Poked
     requires seat { IsSeatOf gate.now seat.old }
     requires opened { IsGateOf links.now ops.now gate.now }
     ensures seat { IsSeatOf gate.now seat.new }
     ensures parts { seat.new.me.0.parts ≡ seat.old.me.0.parts }
-    ensures steps { Went result.poked seat.old.me.0.steps seat.new.me.0.steps }
+    ensures steps { Went result.answer seat.old.me.0.steps seat.new.me.0.steps }
 {
-    let mut busy = false;
+    let mut rouse = 0;
     if !gate.take(seat) {
-        return Visited {
-            poked: Poked::Noted,
-            busy,
+        return Poked {
+            answer: PokeAnswer::Noted,
+            rouse,
         };
     }
     for round in 0..ROUNDS {
         mark_held(gate, seat);
         let served = serve_held(alloc, ops, gate, links, seat, budget);
-        busy |= is_busy(served);
+        rouse |= served.rouse;
         match served.answer {
             Answer::Idle => {
                 if leave_held(gate, seat) {
-                    return Visited {
-                        poked: Poked::Idle,
-                        busy,
+                    return Poked {
+                        answer: PokeAnswer::Idle,
+                        rouse,
                     };
                 }
             }
             Answer::Budget => {
                 gate.release(seat);
-                return Visited {
-                    poked: Poked::Budget,
-                    busy,
+                return Poked {
+                    answer: PokeAnswer::Budget,
+                    rouse,
                 };
             }
             Answer::NoMemory => {
                 gate.release(seat);
-                return Visited {
-                    poked: Poked::NoMemory,
-                    busy,
+                return Poked {
+                    answer: PokeAnswer::NoMemory,
+                    rouse,
                 };
             }
         }
     }
     gate.release(seat);
-    Visited {
-        poked: Poked::More,
-        busy,
+    Poked {
+        answer: PokeAnswer::More,
+        rouse,
     }
-}
-
-/// Whether it made a move or took a signal.
-fn is_busy(served: Served) -> bool
-    ensures { result ≡ (nat_lt 0 served.moves || nat_lt 0 served.pops) }
-{
-    served.moves > 0 || served.pops > 0
 }
 
 impl<N: Nodes<Item = T>, T: Drop, O: Ops<Item = T>> Live<N, T, O> {

@@ -52,9 +52,8 @@ fn worked<R: Wait, N: Nodes<Item = T>, T: Drop, O: Ops<Item = T>, W: Rest + Drop
 /// gate, in their order, each with all parts, and no more than [`MOST_WORKERS`](crate::MOST_WORKERS), and a parker for each.
 ///
 /// Worker w works on region w by [`work`], and rests on a parker of its own. `main` is given what rouses the workers: it does so after a
-/// request or a cancel, and again and again while it waits, since a worker that only passes a request on rouses nobody. As it returns, the
-/// workers are stopped: each ends after its next rest, and has that once nothing is left to do in its region. The call returns once all
-/// have ended, which may be never.
+/// request, a take or a cancel, since these calls don't say which region they touched. As it returns, the workers are stopped: each ends
+/// after its next rest, and has that once nothing is left to do in its region. The call returns once all have ended, which may be never.
 ///
 /// The seats come back, each with all parts, so that the gates may be ended. Where the system refuses a thread, its worker works on the
 /// calling thread once `main` has returned.

@@ -13,7 +13,7 @@ ghost use Rattle.rsx_serialized.specs.Driven.{ChangesAt, Emits, Ends, HasNoEmitt
 use crate::serialized::SerializedGraph;
 use crate::starting::StartedGraph;
 use rsx_hub::Rejected;
-use rsx_runtime::{Emitter, NotEnded, Poked, Tap};
+use rsx_runtime::{Emitter, NotEnded, PokeAnswer, Tap};
 use rsx_types::{HubId, Ops, Signal, SubId};
 use std::alloc::Global;
 
@@ -45,7 +45,7 @@ impl<O: Ops> StartedGraph<O> {
     ghost use Rattle.rsx_serialized.specs.Started.{IsStarted};
 
     /// Works on the graph, as [`SerializedGraph::poke`] does, by the seat.
-    pub fn poke(&mut self, alloc: Global, budget: u32) -> Poked
+    pub fn poke(&mut self, alloc: Global, budget: u32) -> PokeAnswer
         requires { IsStarted self.old }
         ensures started { IsStarted self.new }
         ensures same { (self.new.graph ≡ self.old.graph) × (self.new.emitters ≡ self.old.emitters) × (self.new.taps ≡ self.old.taps) }

@@ -9,7 +9,7 @@ ghost use Rattle.rsx_serialized.specs.Resting.{IsAtRest};
 use crate::opening::Opening;
 use crate::region::{GraphRegion, Links, Served};
 use rsx_gate::{Gate, Seat};
-use rsx_runtime::{Poked, ROUNDS};
+use rsx_runtime::{PokeAnswer, ROUNDS};
 use rsx_types::Ops;
 use std::alloc::Global;
 use std::snapshot::Snapshot;
@@ -108,7 +108,7 @@ impl<O: Ops> SerializedGraph<O> {
     /// Works on the graph: where no other seat has it, it is served by [`GraphRegion::serve`] until nothing is left to do and no one poked
     /// it meanwhile, and at most [`ROUNDS`] times. The seat has no pass before or after, and keeps its parts; it made just the steps
     /// that the answer tells of. No call waits.
-    pub fn poke(&self, alloc: Global, seat: &mut GraphSeat<O>, budget: u32) -> Poked
+    pub fn poke(&self, alloc: Global, seat: &mut GraphSeat<O>, budget: u32) -> PokeAnswer
         requires { IsSeatOf self.now.gate seat.old }
         ensures seat { IsSeatOf self.now.gate seat.new }
         ensures parts { seat.new.me.0.parts ≡ seat.old.me.0.parts }
@@ -125,7 +125,7 @@ fn visit<O: Ops>(
     links: &Links<O::Item>,
     seat: &mut GraphSeat<O>,
     budget: u32,
-) -> Poked
+) -> PokeAnswer
     requires seat { IsSeatOf gate.now seat.old }
     requires opened { (key_of gate.now).links.value ≡ links.now }
     ensures seat { IsSeatOf gate.now seat.new }
@@ -133,28 +133,28 @@ fn visit<O: Ops>(
     ensures steps { Went result seat.old.me.0.steps seat.new.me.0.steps }
 {
     if !gate.take(seat) {
-        return Poked::Noted;
+        return PokeAnswer::Noted;
     }
     for round in 0..ROUNDS {
         mark_held(gate, seat);
         match serve_held(alloc, gate, links, seat, budget) {
             Served::Idle => {
                 if leave_held(gate, seat) {
-                    return Poked::Idle;
+                    return PokeAnswer::Idle;
                 }
             }
             Served::Budget => {
                 gate.release(seat);
-                return Poked::Budget;
+                return PokeAnswer::Budget;
             }
             Served::NoMemory => {
                 gate.release(seat);
-                return Poked::NoMemory;
+                return PokeAnswer::NoMemory;
             }
         }
     }
     gate.release(seat);
-    Poked::More
+    PokeAnswer::More
 }
 
 /// The mark of a seat that has the graph. It keeps it.

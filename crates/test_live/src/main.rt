@@ -12,6 +12,9 @@
 //! by the close is up to the system, and isn't written. Further expressions do so with fewer workers and with more. The first comparison
 //! that differs, and the first join that is refused, end the program with status 1.
 //!
+//! Before its runs one thread drives a graph of each expression by what its pokes answer: it pokes only the regions that a poke named. The
+//! first line says which regions two pokes of one more graph name.
+//!
 //! `test_live WAY COUNT` does none of that: it sends so many numbers through a graph, and prints how many items came and their sum, and no
 //! time, so that `bench/live.sh` counts its instructions. WAY is `queue`, where the graph is pumped, or `link`, where it is live.
 
@@ -20,12 +23,14 @@ mod chance;
 mod compared;
 mod driven;
 mod numbers;
+mod roused;
 mod serving;
 mod stopped;
 mod threaded;
 mod timed;
 
 use crate::driven::WORKERS;
+use crate::roused::{MERGE, poke_merge, try_roused};
 use crate::serving::Requests;
 use crate::stopped::{SEEDS, Tried, try_stopped};
 use crate::threaded::try_on_threads;
@@ -77,7 +82,10 @@ const BY_WORKERS: [(u8, &'static str); 3] = [
 
 /// Tries all expressions, with items requested in two ways and then by chance, and writes a line for each.
 fn try_all<R: Print + AllocGlobal + Threads + Wait + Sync + Clock>(rt: &R) -> Result<()> {
+    let (first, second) = poke_merge(rt.alloc())?;
+    println!(rt; "{MERGE}: a poke of region 1 names {first}, and one of region 0 then {second}")?;
     for text in &EXPRESSIONS {
+        try_roused(rt.alloc(), text, WORKERS)?;
         let by_one_and_two = Requests::InTurns([(0, 1), (1, 2)]);
         try_on_threads(rt, rt.alloc(), text, by_one_and_two)?;
         let by_five_and_three = Requests::InTurns([(1, 5), (0, 3)]);
@@ -88,6 +96,7 @@ fn try_all<R: Print + AllocGlobal + Threads + Wait + Sync + Clock>(rt: &R) -> Re
         )?;
     }
     for (workers, text) in BY_WORKERS {
+        try_roused(rt.alloc(), text, workers)?;
         let Tried { taps, edges } = try_stopped(rt, rt.alloc(), text, workers)?;
         println!(rt;
             "{text}: {SEEDS} random runs on {workers} threads, cut at {edges} edges, with {taps} taps, equal"

@@ -200,8 +200,8 @@ fn endings<T>(received: &Log<T>) -> usize {
     count
 }
 
-/// Requests so many items by the tap at a place, rouses the workers, and takes what waits. The workers are roused in each turn, since one
-/// that only passes a request on rouses nobody.
+/// Requests so many items by the tap at a place, rouses the workers, and takes what waits. What was taken in a turn makes room, for which
+/// the workers are roused in the next one.
 fn take_turn<O: Ops>(
     graph: &LiveGraph<O>,
     taps: &mut Vec<Tap<O::Item>>,

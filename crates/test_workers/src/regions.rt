@@ -11,7 +11,7 @@ use rsx_gate::More;
 use rsx_pipe::Nodes;
 use rsx_processor::ProcessorNode;
 use rsx_region::{Answer, Region};
-use rsx_runtime::{Live, Poked, RegionLeft, RegionSeat};
+use rsx_runtime::{Live, PokeAnswer, Poked, RegionLeft, RegionSeat};
 use rsx_types::Ops;
 use std::alloc::Global;
 use std::test::Fail;
@@ -32,14 +32,16 @@ fn one_region(alloc: Global) -> Option<(DemoLive, DemoSeat)>
     ensures only { IfSome result (λ r. AllZip (λ g s. IsSeatOf g s × (all_parts ≤ s.me.0.parts)) r.0.gates.items (r.1 ∷ [])) }
 {
     let mut live = Live::new(alloc, Demo, Vec::new(alloc));
-    let region = Region {
-        number: 0,
-        pieces: Vec::new(alloc),
-    };
+    let region = Region::new(alloc, 0, Vec::new(alloc));
     match live.add(alloc, 0, region) {
         Ok(seat) => Some((live, seat)),
         Err(_) => None,
     }
+}
+
+// What a poke comes to that touched no link.
+fn touched_none(answer: PokeAnswer) -> Poked {
+    Poked { answer, rouse: 0 }
 }
 
 // What one poke of a region of its own answers under this budget.
@@ -67,17 +69,11 @@ fn two_regions(alloc: Global) -> Option<(DemoLive, DemoSeat, DemoSeat)>
     ensures second { IfSome result (λ r. IsAmong r.0.gates.items 1 (λ g. IsSeatOf g r.2)) }
 {
     let mut live = Live::new(alloc, Demo, Vec::new(alloc));
-    let region = Region {
-        number: 0,
-        pieces: Vec::new(alloc),
-    };
+    let region = Region::new(alloc, 0, Vec::new(alloc));
     let Ok(first) = live.add(alloc, 0, region) else {
         return None;
     };
-    let region = Region {
-        number: 1,
-        pieces: Vec::new(alloc),
-    };
+    let region = Region::new(alloc, 1, Vec::new(alloc));
     match live.add(alloc, 0, region) {
         Ok(second) => Some((live, first, second)),
         Err(_) => None,
@@ -148,8 +144,11 @@ fn poke_while_held<R: Threads>(
 
 #[test]
 fn a_poke_uses_its_budget_up_or_is_idle(rt: HostRuntime) -> Result<(), Fail> {
-    assert_eq!(rt; pokes(rt.alloc(), 0), Some(Poked::Budget));
-    assert_eq!(rt; pokes(rt.alloc(), 10), Some(Poked::Idle));
+    assert_eq!(rt;
+        pokes(rt.alloc(), 0),
+        Some(touched_none(PokeAnswer::Budget))
+    );
+    assert_eq!(rt; pokes(rt.alloc(), 10), Some(touched_none(PokeAnswer::Idle)));
     Ok(())
 }
 
@@ -168,7 +167,7 @@ fn a_region_is_poked_while_another_is_held(rt: HostRuntime) -> Result<(), Fail> 
         let gives_up = round % 2 == 0;
         assert_eq!(rt;
             poke_while_held(&rt, rt.alloc(), &live, &mut first, second, gives_up),
-            Some(Poked::Idle)
+            Some(touched_none(PokeAnswer::Idle))
         );
     }
     Ok(())

@@ -1,4 +1,5 @@
-use Rattle.std.proofs.Common.{◌≡◌, ◌∷◌, ◌++◌, [], arith}
+use Rattle.std.proofs.Common.{◌≡◌, ◌∷◌, ◌++◌, [], Vec, ap, arith, ◌∙◌}
+use Rattle.rsx_region.specs.declared.piece.Piece.{Piece}
 use Rattle.rsx_region.specs.declared.region.Region.{Region}
 use Rattle.rsx_runtime.proofs.Begins.{one_more}
 use Rattle.rsx_runtime.proofs.Gates.{each_pushed, each_same}
@@ -12,8 +13,9 @@ loop-number-preserved g c =
     let i = c.loop-number.invariant.count in
     let r = c.loop-number.invariant.room in
     let k = c.push_reserved.ensures.capacity in
+    let none = ap (λ (p : Vec (Piece _ _) _). p.items) c.new-in-loop-number.ensures.1 ∙ c.new.ensures.items in
     record {
       count = omega (arith, l, i);
-      empty = each_same P (old ++ _ ∷ []) c.push_reserved.new.self.items c.push_reserved.ensures.items (each_pushed P old _ c.loop-number.invariant.empty c.new.ensures.items);
+      empty = each_same P (old ++ c.new-in-loop-number.result ∷ []) c.push_reserved.new.self.items c.push_reserved.ensures.items (each_pushed P old c.new-in-loop-number.result c.loop-number.invariant.empty none);
       room = omega (arith, r, k);
     }

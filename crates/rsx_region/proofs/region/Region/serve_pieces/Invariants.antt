@@ -2,7 +2,7 @@ use Rattle.std.proofs.Common.{◌≡◌, ◌+◌, ◌-◌, ◌≤◌, ℕ, List}
 use Rattle.rsx_types.specs.Stream.{Stream}
 use Rattle.rsx_region.specs.Regions.{ArePiecesOf, RegionGoes, RegionStands}
 use Rattle.rsx_region.specs.declared.piece.Piece.{Piece}
-use Rattle.rsx_region.proofs.region.Region.serve.Given as goal
+use Rattle.rsx_region.proofs.region.Region.serve_pieces.Given as goal
 
 abbrev pub invariant-loop-moves : goal.invariant-loop-moves
 invariant-loop-moves g l =

@@ -1,0 +1,5 @@
+use Rattle.rsx_live.specs.Starts.{IsStarted}
+use Rattle.test_live.proofs.roused.drive.Given as goal
+
+abbrev pub invariant-loop : goal.invariant-loop
+invariant-loop l = IsStarted l.started
