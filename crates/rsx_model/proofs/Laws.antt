@@ -17,7 +17,7 @@ use Rattle.rsx_model.specs.declared.expr.Expr.TheViews.{out-Expr}
 use Rattle.rsx_model.specs.Shape.{children}
 use Rattle.rsx_model.specs.Eval.{Environment, Meant, meant, in_order, node_value, quiet, chosen, ended_by_record, behind, joined_value}
 use Rattle.rsx_model.specs.Laws.{folded_in, folded, ScanFolds, joined, IsCut, given_lists, BufferCuts, DistinctKeepsFirst, NoBadRequest}
-use Rattle.rsx_values.proofs.Steps.{buffered_full, buffered_more}
+use Rattle.rsx_model.proofs.Steps.{buffered_full, buffered_more}
 use Rattle.rsx_model.proofs.Unfold.{Each, by_children, children-map, value_out}
 use Rattle.rsx_model.proofs.Endings.{Fine, AllFine, FineMeant, in_order_fine, concat_values_fine, merge_values_fine, merge_delay_values_fine, eager_values_fine, zip_values_fine, latest_values_fine, merged_lanes_fine, merged_lanes_delay_fine}
 

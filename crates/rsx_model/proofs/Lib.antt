@@ -1,6 +1,9 @@
 pub mod Endings
 pub mod Inputs
 pub mod Laws
+pub mod Mains
 pub mod Noted
+pub mod Overtaking
+pub mod Steps
 pub mod Unfold
 pub mod Values

@@ -6,3 +6,5 @@ pub mod Kinds
 pub mod Laws
 pub mod Region
 pub mod Shape
+pub mod WorkedEager
+pub mod WorkedJoins

@@ -12,12 +12,12 @@ ghost use Rattle.rsx_model.specs.Answer.{Gives, GivesAll, IsScratch, alone, name
 
 use crate::kinds::are_noted;
 use crate::lanes::{flat_delay_of, flat_of, group_of, on_eager_of, window_of};
+use crate::operators::plain::{apply, copies_of, range_list};
 use crate::several::{concat_of, latest_of, merge_delay_of, merge_of, zip_of};
 use crate::{
     BadExpr, Below, Expr, MOST_COUNT, MOST_NODES, below_of, leaves_of, nodes_of, refusal_of,
 };
 use rsx_types::{Ending, NoMemory, Note, Ops, Stage, StreamValue};
-use rsx_values::{apply, copies_of, range_list};
 use std::alloc::{AllocFailed, Global};
 use thiserror::Error;
 

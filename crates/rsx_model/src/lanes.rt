@@ -10,9 +10,12 @@ ghost use Rattle.rsx_model.specs.Eval.{chosen};
 ghost use Rattle.rsx_model.specs.Answer.{Gives, GivesAll, alone};
 
 use crate::evaluate::{Trouble, only_of};
+use crate::operators::eager::eager_of;
+use crate::operators::flat::{flat_map, flat_map_delay};
+use crate::operators::group::group_by;
+use crate::operators::windowing::window;
 use crate::several::if_valid;
 use rsx_types::{Note, Ops, Stage, StreamValue};
-use rsx_values::{eager_of, flat_map, flat_map_delay, group_by, window};
 use std::alloc::Global;
 
 /// The value of `groupBy` over the value of its only input, by the choices that were recorded; any other record is out of place.

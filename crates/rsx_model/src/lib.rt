@@ -19,13 +19,29 @@
 //! says `Eval` in the `specs/` of `rsx_model`. The definitions of its own stand in `specs/`: `Kinds` (what the nodes of an
 //! expression record), `Answer` (what the evaluator answers) and `Laws` (what `scan`, `buffer` and `distinct` give, in the
 //! words of lists; and that no expression fails with a bad request where no hub does).
+//!
+//! # Operators over whole stream values
+//!
+//! The evaluators that no node shares: the plain operators, `concat`, `publishOnEager`, `window`, `flatMap` and `groupBy`.
+//!
+//! Each calls the caller's functions in the order of the items. The definitions that their contracts cite stand in
+//! `rsx_types` and `rsx_values`, where `merge`, `zip` and `combineLatest` are computed too; `proofs/Steps` has one item of
+//! each loop over a value, and `Worked` of `specs/` cases worked by hand.
+//!
+//! Several streams are made of one by `window`, `flatMap` and `groupBy`. Each of these streams is a lane: it goes through a
+//! chain of plain operators, and what comes out of the lanes is put together again. Beside them stands Main, which has no
+//! items and the ending of the input. A `window` has one lane behind the other, and Main behind them; `flatMap` and `groupBy`
+//! take their lanes' signals in an order of their own, which is recorded, and evaluated here under that record.
 
 mod check;
 mod evaluate;
 mod expr;
+pub mod joining_law;
 mod kinds;
 mod lanes;
+pub mod lanes_law;
 mod law;
+mod operators;
 pub mod region;
 mod several;
 

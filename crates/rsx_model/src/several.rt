@@ -12,8 +12,9 @@ ghost use Rattle.rsx_model.specs.Eval.{chosen, ended_by_record};
 ghost use Rattle.rsx_model.specs.Answer.{Gives, GivesAll};
 
 use crate::evaluate::Trouble;
+use crate::operators::concatenation::concat;
 use rsx_types::{NoMemory, Note, Ops, StreamValue};
-use rsx_values::{Input, Latest, Zip, concat, merge, merge_delay};
+use rsx_values::{Input, Latest, Zip, merge, merge_delay};
 use std::alloc::Global;
 
 /// The value of `concat` over the values of its inputs.

@@ -15,7 +15,5 @@ pub mod Rows
 pub mod Steps
 pub mod Window
 pub mod WorkedDelayed
-pub mod WorkedEager
-pub mod WorkedJoins
 pub mod WorkedLanes
 pub mod Zip
