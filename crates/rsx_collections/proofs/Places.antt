@@ -34,6 +34,10 @@ is_found ks place k has = by_place (place k) refl
     by_place (Some i) e = let there : is_member nat_eq ks k ≡ true = key_there ks k i (has.stands k i e) in rw (e, there) refl
     by_place None e = let out : false ≡ is_member nat_eq ks k = by_member e (is_member nat_eq ks k) refl in rw e out
 
+-- each key keeps its place
+pub places_kept : (ks : List ℕ) (old new : ℕ → Option ℕ) → HasPlaces ks old → ((q : ℕ) → new q ≡ old q) → HasPlaces ks new
+places_kept ks old new has is = record { stands = λ k i e. has.stands k i (sym (is k) ∙ e); found = λ k i e. is k ∙ has.found k i e }
+
 -- ---- one key more, and one less
 
 pub stays_in_place : (ks more : List ℕ) (k i : ℕ) → slice_get ks i ≡ Some k → slice_get (ks ++ more) i ≡ Some k

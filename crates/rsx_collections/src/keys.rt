@@ -1,8 +1,10 @@
 //! Keys that came, each once.
 
-ghost use Rattle.std.specs.Prelude.{◌≡◌, [], ◌++◌, nat_eq, length, slice_get, is_some, Some, IfOk, IfSome, OnOk, OnErr};
+ghost use Rattle.std.specs.Prelude.{◌≡◌, ℕ, ◌<◌, [], ◌++◌, nat_eq, length, slice_get, is_some, Some, IfOk, IfSome, OnOk, OnErr};
 ghost use Rattle.std.specs.Option.{option_to_list, IfNone};
 ghost use Rattle.std.specs.Set.{is_member};
+ghost use Rattle.std.specs.Vec.{vec_len, vec_capacity};
+ghost use Rattle.std.specs.HashMap.{get};
 ghost use Rattle.rsx_collections.specs.Keys.{noted};
 
 use rsx_types::NoMemory;
@@ -10,6 +12,14 @@ use std::alloc::Global;
 use std::collections::HashMap;
 use std::collections::hash_map::Entry;
 use std::marker::Model;
+
+/// For how many keys the first growth makes room.
+const FIRST_ROOM: usize = 8;
+
+/// For how many more keys a further growth makes room, for each that is there. A growth puts all of them into a new table. By the
+/// time that the room is used up again that comes to a third of an insertion for each key, where it would be one if the room only
+/// doubled. The room is then for at most four times the keys that are there.
+const MORE_FOR_EACH: usize = 3;
 
 /// Keys without repetition, in the order in which each came first. Contracts see the list of them.
 ///
@@ -57,6 +67,13 @@ impl Keys {
         ensures keys { OnOk result (self.new ≡ noted self.old key) }
         ensures same { OnErr result (self.new ≡ self.old) }
     {
+        if self.order.len() == self.order.capacity() {
+            // A known key needs no room.
+            if self.places.contains_key(&key) {
+                return Ok(true);
+            }
+            make_room(&mut self.order, &mut self.places)?;
+        }
         match self.places.entry(key) {
             Ok(Entry::Occupied(known)) => {
                 // The place stays as it is.
@@ -65,10 +82,7 @@ impl Keys {
             }
             Ok(Entry::Vacant(vacant)) => {
                 let place = self.order.len();
-                if self.order.push(key).is_err() {
-                    vacant.into_key();
-                    return Err(NoMemory);
-                }
+                self.order.push_reserved(key);
                 vacant.insert(place);
                 Ok(false)
             }
@@ -127,4 +141,22 @@ impl Keys {
         let places = self.places.clone()?;
         Ok(Keys { order, places })
     }
+}
+
+/// Makes room for more keys, in `order` for one at least. Those that are there stay, and so do their places, whatever the answer.
+///
+/// # Errors
+///
+/// [`NoMemory`] where a growth was refused.
+#[cold]
+#[inline(never)]
+fn make_room(order: &mut Vec<u64>, places: &mut HashMap<u64, usize>) -> Result<(), NoMemory>
+    ensures order { order.new.items ≡ order.old.items }
+    ensures places { (key : ℕ) → get nat_eq places.new key ≡ get nat_eq places.old key }
+    ensures room { OnOk result (vec_len order.new < vec_capacity order.new) }
+{
+    let more = order.len().saturating_mul(MORE_FOR_EACH).max(FIRST_ROOM);
+    places.reserve(more)?;
+    order.reserve(more)?;
+    Ok(())
 }
