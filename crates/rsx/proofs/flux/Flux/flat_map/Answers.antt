@@ -1,5 +1,5 @@
-use Rattle.rsx_flow.proofs.Makes.{over_both}
-use Rattle.rsx_flow.proofs.flux.Flux.flat_map.Goals as goal
+use Rattle.rsx.proofs.Makes.{over_both}
+use Rattle.rsx.proofs.flux.Flux.flat_map.Goals as goal
 
 pub returns : goal.returns
 returns g c =

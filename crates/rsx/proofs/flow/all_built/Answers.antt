@@ -1,8 +1,8 @@
 use Rattle.std.proofs.Common.{◌≡◌, ℕ, List, [], length, map, ◌++◌, option_map, sym, ap, ◌∙◌, arith}
-use Rattle.rsx_flow.specs.Built.{built}
-use Rattle.rsx_flow.specs.Flow.{all_of}
-use Rattle.rsx_flow.proofs.Taken.{none_left, none_taken, one_taken, all_taken}
-use Rattle.rsx_flow.proofs.flow.all_built.Goals as goal
+use Rattle.rsx.specs.Built.{built}
+use Rattle.rsx.specs.Flow.{all_of}
+use Rattle.rsx.proofs.Taken.{none_left, none_taken, one_taken, all_taken}
+use Rattle.rsx.proofs.flow.all_built.Goals as goal
 
 pub loop-input-init : goal.loop-input-init
 loop-input-init g c = (

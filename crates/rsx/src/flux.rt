@@ -1,10 +1,10 @@
 //! An expression that is being built.
 
 ghost use Rattle.std.specs.Prelude.{◌≡◌, [], Some, None, MatchResult};
-ghost use Rattle.rsx_flow.specs.declared.stages.Stages.{Stages as StagesSpec};
+ghost use Rattle.rsx.specs.declared.stages.Stages.{Stages as StagesSpec};
 ghost use Rattle.rsx_types.specs.declared.stage.Stage.TheVariants.{Map, Filter, Take, Scan, Buffer, Distinct};
-ghost use Rattle.rsx_flow.specs.Built.{built, chain};
-ghost use Rattle.rsx_flow.specs.Flow.{IsBoxed, Makes, both, boxed_of, made_of, stages_of, plain as over_plain, group as over_group, window as over_window, flat as over_flat, flat_delay as over_flat_delay, on as over_on, on_eager as over_on_eager};
+ghost use Rattle.rsx.specs.Built.{built, chain};
+ghost use Rattle.rsx.specs.Flow.{IsBoxed, Makes, both, boxed_of, made_of, stages_of, plain as over_plain, group as over_group, window as over_window, flat as over_flat, flat_delay as over_flat_delay, on as over_on, on_eager as over_on_eager};
 
 use crate::names::{Concurrency, ExpandFn, FoldFn, KeyFn, MapFn, Prefetch, TestFn, Worker};
 use crate::stages::Stages;

@@ -1,7 +1,7 @@
 //! The inputs of an operator that has several.
 
 ghost use Rattle.std.specs.Prelude.{◌≡◌, List, Option, IfOk, map};
-ghost use Rattle.rsx_flow.specs.Built.{built};
+ghost use Rattle.rsx.specs.Built.{built};
 ghost use Rattle.rsx_model.specs.declared.expr.Expr.{Expr as ExprSpec};
 
 use crate::flux::Flux;

@@ -1,8 +1,8 @@
 //! Where an expression begins.
 
 ghost use Rattle.std.specs.Prelude.{◌≡◌, Some, IsSomeAnd, map};
-ghost use Rattle.rsx_flow.specs.Built.{built};
-ghost use Rattle.rsx_flow.specs.Flow.{IfMade, Makes, Unwraps, all_of, made_of, made_items, root, items as of_items, range as of_range, hub as of_hub, concat as of_concat, merge as of_merge, merge_delay as of_merge_delay, zip as of_zip, latest as of_latest};
+ghost use Rattle.rsx.specs.Built.{built};
+ghost use Rattle.rsx.specs.Flow.{IfMade, Makes, Unwraps, all_of, made_of, made_items, root, items as of_items, range as of_range, hub as of_hub, concat as of_concat, merge as of_merge, merge_delay as of_merge_delay, zip as of_zip, latest as of_latest};
 
 use crate::flux::Flux;
 use crate::inputs::Inputs;

@@ -1,8 +1,8 @@
 //! A chain of plain operators that is being built.
 
 ghost use Rattle.std.specs.Prelude.{◌≡◌, [], Some};
-ghost use Rattle.rsx_flow.specs.Flow.{Appends, stages_of};
-ghost use Rattle.rsx_flow.specs.Built.{chain};
+ghost use Rattle.rsx.specs.Flow.{Appends, stages_of};
+ghost use Rattle.rsx.specs.Built.{chain};
 ghost use Rattle.rsx_types.specs.declared.stage.Stage.TheVariants.{Map, Filter, Take, Scan, Buffer, Distinct};
 
 use crate::names::{FoldFn, KeyFn, MapFn, TestFn};

@@ -1,7 +1,7 @@
 use Rattle.std.proofs.Common.{◌≡◌, ◌++◌, map, option_map}
-use Rattle.rsx_flow.specs.Built.{built}
-use Rattle.rsx_flow.specs.Flow.{all_of}
-use Rattle.rsx_flow.proofs.flow.all_built.Given as goal
+use Rattle.rsx.specs.Built.{built}
+use Rattle.rsx.specs.Flow.{all_of}
+use Rattle.rsx.proofs.flow.all_built.Given as goal
 
 abbrev pub invariant-loop-input : goal.invariant-loop-input
 invariant-loop-input g l =

@@ -1,7 +1,7 @@
 -- Inputs, one behind the other, as a loop takes them.
 use Rattle.std.proofs.Common.{◌≡◌, ℕ, List, [], ◌∷◌, ◌++◌, length, map, Option, Some, None, option_map, option_and_then, refl, sym, ap, ◌∙◌, append_assoc, arith}
 use Rattle.std.proofs.lemmas.List.{append-nil}
-use Rattle.rsx_flow.specs.Flow.{all_of}
+use Rattle.rsx.specs.Flow.{all_of}
 
 behind : {B : Type 0} (o : Option (List B)) (y : B) (ys : List B) → option_map (λ es. ys ++ es) (option_map (λ es. y ∷ es) o) ≡ option_map (λ es. (ys ++ y ∷ []) ++ es) o
 behind None y ys = refl

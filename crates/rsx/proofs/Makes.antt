@@ -2,7 +2,7 @@
 use Rattle.std.proofs.Common.{◌≡◌, List, Option, Some, None, Result, Ok, Err, Box, Global, refl, sym, ap, subst, ◌∙◌}
 use Rattle.rsx_types.specs.declared.fault.NoMemory.{NoMemory}
 use Rattle.rsx_model.specs.declared.expr.Expr.{Expr}
-use Rattle.rsx_flow.specs.Flow.{Root, IsBoxed, Makes, boxed_of, both}
+use Rattle.rsx.specs.Flow.{Root, IsBoxed, Makes, boxed_of, both}
 
 -- a refusal now is allowed whatever was there
 refused_now : {A T : Type 0} (make : A → Root T (Expr T)) (o : Option A) → Makes make o None

@@ -1,3 +1,0 @@
--- Definitions that contracts cite.
-pub mod Built
-pub mod Flow
