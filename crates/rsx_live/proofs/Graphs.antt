@@ -2,7 +2,7 @@
 use Rattle.std.proofs.Common.{◌≡◌, ℕ, suc, ◌<◌, nat_lt, arith, false, length, Bool, List, [], ◌∷◌, map, refl, ap, sym, ◌∙◌, subst, Vec, Global}
 use Rattle.rsx_types.specs.Meaning.{Meaning}
 use Rattle.rsx_types.specs.declared.ops.Ops.{Ghosts as Ops}
-use Rattle.rsx_sources.specs.Prelude.{Stream}
+use Rattle.rsx_types.specs.Stream.{Stream}
 use Rattle.rsx_kinds.specs.Any.{TreeNode, any_machine}
 use Rattle.rsx_runtime.specs.declared.tap.Tap.{Tap}
 use Rattle.rsx_link.specs.declared.link.Link.{Link}
@@ -22,20 +22,20 @@ use Rattle.rsx_model.specs.Region.{region_of}
 use Rattle.rsx_subscriber.specs.Past.{Past}
 use Rattle.rsx_subscriber.specs.declared.subscription.Subscription.{Subscription}
 use Rattle.rsx_live.specs.Graphs.{IsLiveGraphOf, IsTogether, any_crossing, lived_history}
-use Rattle.rsx_live.specs.Kept.{all_lived}
-use Rattle.rsx_live.specs.Lives.{AreAllCut, AreNotJoined, ComeBack, IsLiveFor, StandAs}
-use Rattle.rsx_live.specs.declared.going.NotLive.{NotLive}
-use Rattle.rsx_live.specs.declared.going.NotLive.TheVariants.{NotJoined}
-use Rattle.rsx_live.proofs.Closings.{not_joined_of}
-use Rattle.rsx_live.specs.Returning.{lived}
+use Rattle.rsx_live_parts.specs.Kept.{all_lived}
+use Rattle.rsx_live_parts.specs.Lives.{AreAllCut, AreNotJoined, ComeBack, IsLiveFor, StandAs}
+use Rattle.rsx_live_parts.specs.declared.going.NotLive.{NotLive}
+use Rattle.rsx_live_parts.specs.declared.going.NotLive.TheVariants.{NotJoined}
+use Rattle.rsx_live_parts.proofs.Closings.{not_joined_of}
+use Rattle.rsx_live_parts.specs.Returning.{lived}
 use Rattle.rsx_live.specs.Workers.{HaveRegions}
 use Rattle.rsx_graph_calls.specs.declared.regions.Regions.{Regions}
 use Rattle.rsx_region.specs.Pieces.{Each}
 use Rattle.std.proofs.lemmas.Bool.Decides.{nat_tests}
 use Rattle.rsx_live.specs.declared.graph.GraphRest.{GraphRest}
 use Rattle.rsx_live.specs.declared.graph.LiveGraph.{LiveGraph}
-use Rattle.rsx_live.specs.declared.kept.Kept.{Kept}
-use Rattle.rsx_live.specs.declared.kept.Kept.TheVariants.{Away, Here}
+use Rattle.rsx_live_parts.specs.declared.kept.Kept.{Kept}
+use Rattle.rsx_live_parts.specs.declared.kept.Kept.TheVariants.{Away, Here}
 
 -- what was subscribed to stays
 pub lived_shows : {M T A : Type 0} (f : Past T → A) → ((p q : Past T) → q.expression ≡ p.expression → q.joins ≡ p.joins → f q ≡ f p) → (ks : List (Kept M T)) (ts : List (Tap T)) (fs : List Bool) (ps : List (Past T)) → map f (all_lived ks ts fs ps) ≡ map f ps

@@ -10,14 +10,14 @@ use Rattle.rsx_graph.specs.InGraph.{state_of}
 use Rattle.rsx_graph.specs.Stands.{GraphStands}
 use Rattle.rsx_graph.specs.declared.graph.Graph.{Graph}
 use Rattle.rsx_subscriber.specs.declared.subscription.Subscription.{Subscription}
-use Rattle.rsx_live.specs.Kept.{WereStopped, all_lived}
-use Rattle.rsx_live.specs.Lives.{AreNotJoined, IsLiveFor}
+use Rattle.rsx_live_parts.specs.Kept.{WereStopped, all_lived}
+use Rattle.rsx_live_parts.specs.Lives.{AreNotJoined, IsLiveFor}
 use Rattle.rsx_live.specs.Workers.{HaveRegions}
 use Rattle.rsx_live.specs.declared.graph.GraphRest.{GraphRest}
 use Rattle.rsx_live.specs.declared.graph.LiveGraph.{LiveGraph}
 use Rattle.rsx_live.specs.declared.graph.NotStarted.{NotStarted}
 use Rattle.rsx_live.specs.declared.graph.NotStarted.TheVariants.{NoMemory, NotJoined, TooFewWorkers}
-use Rattle.rsx_live.specs.declared.kept.Kept.{Kept}
+use Rattle.rsx_live_parts.specs.declared.kept.Kept.{Kept}
 
 -- how nodes of all kinds cross
 abbrev pub any_crossing : {T : Type 0} → CrossingNodes (TreeNode T) T

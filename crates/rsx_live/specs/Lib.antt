@@ -1,10 +1,4 @@
 -- Definitions that contracts cite.
-pub mod Cursors
-pub mod Cutting
 pub mod Graphs
-pub mod Kept
-pub mod Lives
-pub mod Outgoing
-pub mod Returning
 pub mod Starts
 pub mod Workers

@@ -8,15 +8,14 @@ ghost use Rattle.rsx_graph.specs.Stands.{NameHubs-prop};
 ghost use Rattle.rsx_graph_calls.specs.Edits.{NameHubs};
 ghost use Rattle.rsx_graph_state.specs.declared.TheConstants.{MOST_HUBS, MOST_SUBSCRIPTIONS};
 ghost use Rattle.rsx_kinds.specs.Any.{any_machine};
-ghost use Rattle.rsx_live.specs.Kept.{AllMustStay, AreTapsFrom};
+ghost use Rattle.rsx_live_parts.specs.Kept.{AllMustStay, AreTapsFrom};
 
-use crate::going::{NotLive, Started, go_live};
-use crate::lives::LiveSubscriptions;
 use crate::workers::has_regions;
 use rsx_graph::{Graph, Pieces, Regions, Subscription};
 use rsx_graph_state::Feed;
 use rsx_hub::Hub;
 use rsx_kinds::TreeNode;
+use rsx_live_parts::{LiveSubscriptions, NotLive, Started, go_live};
 use rsx_region::NotJoined;
 use rsx_runtime::{Live, RegionSeat, Tap};
 use rsx_types::Ops;
@@ -26,7 +25,7 @@ use std::alloc::Global;
 /// is until the close: hubs with their feeds, and the other subscriptions.
 #[derive(Drop)]
 pub struct LiveGraph<O: Ops> {
-    subs: LiveSubscriptions<TreeNode<O::Item>, O::Item, O>,
+    pub(crate) subs: LiveSubscriptions<TreeNode<O::Item>, O::Item, O>,
     rest: GraphRest<O>,
     ghost few: { length subs.kept.items ≤ MOST_SUBSCRIPTIONS },
     ghost joined: { length rest.joins.items ≡ length subs.kept.items },
@@ -73,7 +72,7 @@ pub enum NotStarted<O: Ops> {
 
 impl<O: Ops> LiveGraph<O> {
     ghost use Rattle.rsx_live.specs.Graphs.{ComesBack, GraphBack, IsLiveGraph, IsNotJoined, any_crossing};
-    ghost use Rattle.rsx_live.specs.Lives.{AreAllCut};
+    ghost use Rattle.rsx_live_parts.specs.Lives.{AreAllCut};
     ghost use Rattle.rsx_live.specs.Starts.{IsStartedOf};
     ghost use Rattle.rsx_live.specs.Workers.{HaveRegions};
 

@@ -1,19 +1,9 @@
 //! One thread drives a live graph, or has its taps while other threads have its seats.
 
-ghost use Rattle.std.specs.Prelude.{◌≡◌, ◌<◌, ◌≤◌, length, IfNone, IfSome};
-ghost use Rattle.std.specs.List.{AllZip};
-ghost use Rattle.rsx_gate.specs.Machine.{all_parts};
-ghost use Rattle.rsx_gate.specs.Seats.{IsSeatOf};
-ghost use Rattle.rsx_region.specs.Pieces.{IsAt};
-ghost use Rattle.rsx_runtime.specs.Poking.{IsAmong, Went};
-ghost use Rattle.rsx_runtime.specs.Tapping.{IsTapOf, KeepsTap};
-ghost use Rattle.rsx_live.specs.Starts.{ChangesAt, HasNoTap, TapCancels, TapRequests, Takes};
-
 use crate::graph::{LiveGraph, StartedGraph};
 use rsx_graph::Graph;
-use rsx_pipe::Nodes;
 use rsx_region::NotJoined;
-use rsx_runtime::{Live, Poked, RegionSeat, Tap};
+use rsx_runtime::{Poked, Tap};
 use rsx_types::{Ops, Signal, SubId};
 use std::alloc::Global;
 
@@ -22,7 +12,8 @@ impl<O: Ops> StartedGraph<O> {
     ghost use Rattle.std.specs.Prelude.{◌≡◌, ◌<◌, ◌≤◌, ◌⊎◌, length, IfNone, IfOk, IfSome, None, OnErr};
     ghost use Rattle.rsx_runtime.specs.Poking.{Went};
     ghost use Rattle.rsx_live.specs.Graphs.{GraphBack, IsNotJoined};
-    ghost use Rattle.rsx_live.specs.Starts.{ChangesAt, HasNoTap, IsStarted, StaysStarted, TapCancels, TapChanges, TapRequests, Takes};
+    ghost use Rattle.rsx_live.specs.Starts.{IsStarted, StaysStarted};
+    ghost use Rattle.rsx_live_parts.specs.Tapping.{ChangesAt, HasNoTap, TapCancels, TapChanges, TapRequests, Takes};
 
     /// How many regions there are.
     pub fn regions(&self) -> u8
@@ -39,7 +30,7 @@ impl<O: Ops> StartedGraph<O> {
         self.taps.len()
     }
 
-    /// Works on the region with this number, as [`Live::poke`] does, by its seat. Where there is no such region it does nothing, and
+    /// Works on the region with this number, as [`Live::poke`](rsx_runtime::Live::poke) does, by its seat. Where there is no such region it does nothing, and
     /// there is no answer.
     pub fn poke(&mut self, alloc: Global, region: u8, budget: u32) -> Option<Poked>
         requires { IsStarted self.old }
@@ -49,11 +40,7 @@ impl<O: Ops> StartedGraph<O> {
         ensures some { IfSome result (λ p. ChangesAt region self.old.seats.items self.new.seats.items (λ was now. Went p.answer was.me.0.steps now.me.0.steps)) }
         ensures none { IfNone result ((length self.old.seats.items ≤ region) × (self.new ≡ self.old)) }
     {
-        let place = usize::from(region);
-        if place >= self.seats.len() {
-            return None;
-        }
-        Some(poke_at(alloc, self.live.live(), &mut self.seats, region, budget))
+        self.live.subs.poke(alloc, &mut self.seats, region, budget)
     }
 
     /// Takes the next signal that was delivered to this subscription, if one waits, as [`Tap::take`] does. A subscription that has no tap
@@ -66,10 +53,7 @@ impl<O: Ops> StartedGraph<O> {
         ensures took { HasNoTap sub self.old.taps.items ⊎ TapChanges sub self.old.taps.items self.new.taps.items (Takes result) }
         ensures none { HasNoTap sub self.old.taps.items → (result ≡ None) × (self.new ≡ self.old) }
     {
-        let Some(place) = place_of(&self.taps, sub) else {
-            return None;
-        };
-        take_at(self.live.live(), &mut self.taps, place)
+        self.live.take(&mut self.taps, sub)
     }
 
     /// Requests so many items more for this subscription, as [`Tap::request`] does: a request of 0 or less is answered by its error. Where
@@ -82,10 +66,7 @@ impl<O: Ops> StartedGraph<O> {
         ensures requested { HasNoTap sub self.old.taps.items ⊎ TapChanges sub self.old.taps.items self.new.taps.items (TapRequests n result) }
         ensures none { HasNoTap sub self.old.taps.items → (result ≡ None) × (self.new ≡ self.old) }
     {
-        let Some(place) = place_of(&self.taps, sub) else {
-            return None;
-        };
-        request_at(self.live.live(), &mut self.taps, place, n)
+        self.live.request(&mut self.taps, sub, n)
     }
 
     /// Cancels this subscription, as [`Tap::cancel`] does. Where it has no tap, nothing happens.
@@ -97,10 +78,7 @@ impl<O: Ops> StartedGraph<O> {
         ensures cancelled { HasNoTap sub self.old.taps.items ⊎ TapChanges sub self.old.taps.items self.new.taps.items TapCancels }
         ensures none { HasNoTap sub self.old.taps.items → self.new ≡ self.old }
     {
-        let Some(place) = place_of(&self.taps, sub) else {
-            return;
-        };
-        cancel_at(self.live.live(), &mut self.taps, place);
+        self.live.cancel(&mut self.taps, sub);
     }
 
     /// Ends the regions, and makes a graph again, as [`LiveGraph::close`](crate::LiveGraph::close) does.
@@ -121,7 +99,8 @@ impl<O: Ops> StartedGraph<O> {
 /// takes memory.
 impl<O: Ops> LiveGraph<O> {
     ghost use Rattle.std.specs.Prelude.{◌≡◌, ◌⊎◌, None};
-    ghost use Rattle.rsx_live.specs.Starts.{AreTapsOf, HasNoTap, TapCancels, TapChanges, TapRequests, Takes};
+    ghost use Rattle.rsx_live.specs.Starts.{AreTapsOf};
+    ghost use Rattle.rsx_live_parts.specs.Tapping.{HasNoTap, TapCancels, TapChanges, TapRequests, Takes};
 
     /// Takes the next signal that was delivered to this subscription, if one waits, as [`StartedGraph::take`] does, by its tap, which is
     /// one of these.
@@ -131,10 +110,7 @@ impl<O: Ops> LiveGraph<O> {
         ensures took { HasNoTap sub taps.old.items ⊎ TapChanges sub taps.old.items taps.new.items (Takes result) }
         ensures none { HasNoTap sub taps.old.items → (result ≡ None) × (taps.new ≡ taps.old) }
     {
-        let Some(place) = place_of(taps, sub) else {
-            return None;
-        };
-        take_at(self.live(), taps, place)
+        self.subs.take(taps, sub)
     }
 
     /// Requests so many items more for this subscription, as [`StartedGraph::request`] does, by its tap, which is one of these.
@@ -149,10 +125,7 @@ impl<O: Ops> LiveGraph<O> {
         ensures requested { HasNoTap sub taps.old.items ⊎ TapChanges sub taps.old.items taps.new.items (TapRequests n result) }
         ensures none { HasNoTap sub taps.old.items → (result ≡ None) × (taps.new ≡ taps.old) }
     {
-        let Some(place) = place_of(taps, sub) else {
-            return None;
-        };
-        request_at(self.live(), taps, place, n)
+        self.subs.request(taps, sub, n)
     }
 
     /// Cancels this subscription, as [`StartedGraph::cancel`] does, by its tap, which is one of these.
@@ -162,78 +135,6 @@ impl<O: Ops> LiveGraph<O> {
         ensures cancelled { HasNoTap sub taps.old.items ⊎ TapChanges sub taps.old.items taps.new.items TapCancels }
         ensures none { HasNoTap sub taps.old.items → taps.new ≡ taps.old }
     {
-        let Some(place) = place_of(taps, sub) else {
-            return;
-        };
-        cancel_at(self.live(), taps, place);
+        self.subs.cancel(taps, sub);
     }
-}
-
-/// The place of a tap of this subscription.
-fn place_of<T: Drop>(taps: &[Tap<T>], sub: SubId) -> Option<usize>
-    ensures some { IfSome result (λ place. IsAmong taps.now place (λ t. t.sub ≡ sub)) }
-    ensures none { IfNone result (HasNoTap sub taps.now) }
-{
-    for (place, tap) in taps.iter().enumerate() {
-        if tap.sub() == sub {
-            return Some(place);
-        }
-    }
-    None
-}
-
-/// Works on the region with this number by its seat.
-fn poke_at<N: Nodes<Item = T>, T: Drop, O: Ops<Item = T>>(
-    alloc: Global,
-    live: &Live<N, T, O>,
-    seats: &mut Vec<RegionSeat<N, T, O>>,
-    region: u8,
-    budget: u32,
-) -> Poked
-    requires seats { AllZip (λ g s. IsSeatOf g s × (all_parts ≤ s.me.0.parts)) live.now.gates.items seats.old.items }
-    requires there { region < length seats.old.items }
-    ensures seats { AllZip (λ g s. IsSeatOf g s × (all_parts ≤ s.me.0.parts)) live.now.gates.items seats.new.items }
-    ensures went { ChangesAt region seats.old.items seats.new.items (λ was now. Went result.answer was.me.0.steps now.me.0.steps) }
-{
-    live.poke(alloc, region, &mut seats[usize::from(region)], budget)
-}
-
-/// Takes the next signal by the tap at this place.
-fn take_at<N: Nodes<Item = T>, T: Drop, O: Ops<Item = T>>(
-    live: &Live<N, T, O>,
-    taps: &mut Vec<Tap<T>>,
-    place: usize,
-) -> Option<Signal<T>>
-    requires { IsAmong taps.old.items place (λ t. IsAt live.now.links.items t.link (λ l. IsTapOf l t)) }
-    ensures { ChangesAt place taps.old.items taps.new.items (λ was now. IsAt live.now.links.items was.link (λ l. KeepsTap l was now) × Takes result was now) }
-{
-    let tap = &mut taps[place];
-    tap.take(live)
-}
-
-/// Requests so many items more by the tap at this place.
-fn request_at<N: Nodes<Item = T>, T: Drop, O: Ops<Item = T>>(
-    live: &Live<N, T, O>,
-    taps: &mut Vec<Tap<T>>,
-    place: usize,
-    n: i64,
-) -> Option<Signal<T>>
-    requires { IsAmong taps.old.items place (λ t. IsAt live.now.links.items t.link (λ l. IsTapOf l t)) }
-    ensures { ChangesAt place taps.old.items taps.new.items (λ was now. IsAt live.now.links.items was.link (λ l. KeepsTap l was now) × TapRequests n result was now) }
-{
-    let tap = &mut taps[place];
-    tap.request(live, n)
-}
-
-/// Cancels by the tap at this place.
-fn cancel_at<N: Nodes<Item = T>, T: Drop, O: Ops<Item = T>>(
-    live: &Live<N, T, O>,
-    taps: &mut Vec<Tap<T>>,
-    place: usize,
-)
-    requires { IsAmong taps.old.items place (λ t. IsAt live.now.links.items t.link (λ l. IsTapOf l t)) }
-    ensures { ChangesAt place taps.old.items taps.new.items (λ was now. IsAt live.now.links.items was.link (λ l. KeepsTap l was now) × TapCancels was now) }
-{
-    let tap = &mut taps[place];
-    tap.cancel(live);
 }

@@ -1,5 +1,5 @@
 use Rattle.std.proofs.Common.{◌∙◌}
-use Rattle.rsx_live.proofs.Counts.{on_err}
+use Rattle.rsx_live_parts.proofs.Counts.{on_err}
 use Rattle.rsx_live.proofs.Graphs.{graph_lived, other_functions}
 use Rattle.rsx_live.proofs.graph.LiveGraph.close.Goals as goal
 

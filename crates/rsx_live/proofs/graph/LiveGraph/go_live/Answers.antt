@@ -1,7 +1,7 @@
 use Rattle.std.proofs.Common.{◌∙◌, arith, refl, sym}
 use Rattle.rsx_kinds.specs.Any.{any_machine}
 use Rattle.rsx_live.specs.Graphs.{any_crossing}
-use Rattle.rsx_live.proofs.Closings.{come_of}
+use Rattle.rsx_live_parts.proofs.Closings.{come_of}
 use Rattle.rsx_live.proofs.Graphs.{cut_live, given_back, gone_live, none_back, pieces_together}
 use Rattle.rsx_live.proofs.Starts.{started_of}
 use Rattle.rsx_live.proofs.graph.LiveGraph.go_live.Goals as goal

@@ -1,13 +1,9 @@
-use Rattle.std.proofs.Common.{inr, refl}
-use Rattle.rsx_live.specs.Starts.{TapCancels}
-use Rattle.rsx_live.proofs.Starts.{tap_did, tap_found}
+use Rattle.std.proofs.Common.{refl}
+use Rattle.rsx_live.proofs.Starts.{taps_started}
 use Rattle.rsx_live.proofs.graph.StartedGraph.cancel.Goals as goal
 
-pub cancel_at-requires-after_bounds : goal.cancel_at-requires-after_bounds
-cancel_at-requires-after_bounds g c κs within = tap_found c.args.sub c.args.self.now c.in-Some.place c.deref.result.now c.live.result.now c.requires c.deref.ensures.value c.live.ensures c.in-Some.ensures.some
+pub returns-clause-started : goal.returns-clause-started
+returns-clause-started g c = record { graph = c.requires.graph; is = taps_started c.requires.graph c.args.self.now _ refl c.requires.is refl c.cancel.ensures.taps }
 
-pub returns : goal.returns
-returns g c =
-    let s = c.args.self.now in
-    let d = tap_did c.args.sub s c.in-Some.place c.deref.result.now c.live.result.now c.requires c.deref.ensures.value c.live.ensures c.in-Some.ensures.some c.cancel_at.new.taps TapCancels c.cancel_at.ensures in
-    record { started = d.started; stays = d.stays; same = d.same; cancelled = inr d.changed; none = λ no. absurd (d.has no) }
+pub returns-clause-stays : goal.returns-clause-stays
+returns-clause-stays g c = λ graph is. taps_started graph c.args.self.now _ refl is refl c.cancel.ensures.taps
