@@ -1,5 +1,5 @@
 -- An operator over what was built and a chain.
-use Rattle.std.proofs.Common.{◌≡◌, List, Option, Some, None, Result, Ok, Err, Box, Global, refl, sym, ap, subst, ◌∙◌}
+use Rattle.std.proofs.Common.{◌≡◌, Option, Some, None, Result, Ok, Err, Box, Global, refl, sym, subst, ◌∙◌}
 use Rattle.rsx_types.specs.declared.fault.NoMemory.{NoMemory}
 use Rattle.rsx_model.specs.declared.expr.Expr.{Expr}
 use Rattle.rsx.specs.Flow.{Root, IsBoxed, Makes, boxed_of, both}

@@ -1,4 +1,4 @@
-use Rattle.std.proofs.Common.{◌≡◌, ℕ, List, [], length, map, ◌++◌, option_map, sym, ap, ◌∙◌, arith}
+use Rattle.std.proofs.Common.{◌≡◌, length, map, ◌++◌, option_map, sym, ap, ◌∙◌, arith}
 use Rattle.rsx.specs.Built.{built}
 use Rattle.rsx.specs.Flow.{all_of}
 use Rattle.rsx.proofs.Taken.{none_left, none_taken, one_taken, all_taken}
