@@ -1,9 +1,15 @@
--- Lemmas about runs over an input.
+-- Lemmas about runs over an input, and about the text of expressions.
+pub mod Back
 pub mod Bytes
+pub mod Drawings
 pub mod DrawnLines
 pub mod Ending
 pub mod Lines
 pub mod Parts
+pub mod Put
 pub mod Reading
+pub mod Shown
 pub mod Starts
+pub mod Steps
+pub mod Words
 pub mod Writing

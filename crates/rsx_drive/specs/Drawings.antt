@@ -5,7 +5,7 @@ use Rattle.rsx_script.specs.declared.words.LineRefusal.{LineRefusal}
 use Rattle.rsx_script.specs.declared.words.LineRefusal.TheVariants.{TooLong, NoMemory}
 use Rattle.rsx_script.specs.Commands.{expression_of_line}
 use Rattle.rsx_script.specs.Orders.{Tree}
-use Rattle.rsx_expression_text.specs.Drawn.{drawn_text}
+use Rattle.rsx_drive.specs.Drawn.{drawn_text}
 use Rattle.rsx_drive.specs.Judged.{IsBlank}
 
 -- a line with its answer: a blank one, which has none, or the drawing of the expression that it is

@@ -1,9 +1,12 @@
 -- Definitions that contracts cite.
 pub mod Answered
 pub mod Drawings
+pub mod Drawn
 pub mod JudgeLaws
 pub mod Judged
 pub mod Laws
 pub mod Modes
+pub mod Names
 pub mod Scripts
 pub mod Taken
+pub mod Text

@@ -5,14 +5,14 @@ ghost use Rattle.std.specs.String.{string_bytes};
 ghost use Rattle.rsx_script.specs.Fault.{IsRunFault};
 ghost use Rattle.rsx_script.specs.Orders.{tree_of};
 ghost use Rattle.rsx_tck.specs.Texts.{lines};
-ghost use Rattle.rsx_expression_text.specs.Drawn.{drawn_text};
+ghost use Rattle.rsx_drive.specs.Drawn.{drawn_text};
 ghost use Rattle.rsx_drive.specs.Answered.{Grows, IsStopped, Writes};
 ghost use Rattle.rsx_drive.specs.Drawings.{AreDrawn, IsDrawingStopped, IsDrawn, IsUndrawn, line_too_long, memory_wanted, memory_wanted_last};
 
+use crate::drawing::drawn;
 use crate::input::written_place;
 use crate::{Answers, answer_lines};
 use rsx_demo::Val;
-use rsx_expression_text::drawn;
 use rsx_model::Expr;
 use rsx_script::{AppFault, LineRefusal, parse_expression};
 use std::alloc::Global;

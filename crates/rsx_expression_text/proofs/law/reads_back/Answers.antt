@@ -1,6 +1,0 @@
-use Rattle.rsx_script.specs.Orders.{tree_of}
-use Rattle.rsx_expression_text.proofs.Back.{reads_back}
-use Rattle.rsx_expression_text.proofs.law.reads_back.Goals as goal
-
-pub returns : goal.returns
-returns c = reads_back (tree_of c.args.expr.now)
