@@ -1,6 +1,6 @@
 //! The lines of a script whose graph may go live, one after the other.
 //!
-//! [`drive`](rsx_drive::drive) has its lines answered by a trait, and a method of an implementation may not start a thread by a bound of its
+//! [`drive`](rsx_modes::drive) has its lines answered by a trait, and a method of an implementation may not start a thread by a bound of its
 //! block. So this reads and writes for itself what a live graph is told, and gives each line the handle.
 
 ghost use Rattle.std.specs.Prelude.{◌≡◌, ◌<◌, IfErr};
@@ -34,12 +34,12 @@ struct Lines {
 }
 
 /// Answers each command of a script whose graph may go live, until the input ends. A last line needs no newline. The answers are written
-/// when [`drive`](rsx_drive::drive) writes them: before each read, at the end, also before an error of `Line` or `Memory`, and as soon as
+/// when [`drive`](rsx_modes::drive) writes them: before each read, at the end, also before an error of `Line` or `Memory`, and as soon as
 /// they have 65,536 bytes.
 ///
 /// # Errors
 ///
-/// As [`drive`](rsx_drive::drive), but that the number of reads has no bound: a line is never refused for want of memory, which is
+/// As [`drive`](rsx_modes::drive), but that the number of reads has no bound: a line is never refused for want of memory, which is
 /// `Memory`. That comes also as [`LiveScript::answer`] has it.
 pub fn answer_live<H: Threads + Wait + Sync + Clock, R: Read, W: Write>(
     rt: &H,

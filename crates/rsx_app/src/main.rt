@@ -24,7 +24,7 @@ mod watching;
 
 use crate::lines::answer_live;
 use clap::error::ErrorKind;
-use rsx_drive::{CommandLine, Style, command_line_of, drive, judge_input};
+use rsx_modes::{CommandLine, Style, command_line_of, drive, judge_input};
 use rsx_script::{AppFault, LineRefusal, Mode, Reads, Remembering, Subcommand, hint};
 use rsx_session::Recording;
 use std::io::{IsTerminal, Read, Write};

@@ -4,12 +4,10 @@ pub mod Bytes
 pub mod Drawings
 pub mod DrawnLines
 pub mod Ending
-pub mod Lines
 pub mod Parts
 pub mod Put
 pub mod Reading
 pub mod Shown
-pub mod Starts
 pub mod Steps
 pub mod Words
 pub mod Writing

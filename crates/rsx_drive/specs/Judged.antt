@@ -1,5 +1,5 @@
--- Inputs of expressions and traces, and what they are answered with.
-use Rattle.std.specs.Prelude.{◌≡◌, ℕ, ◌+◌, ◌<◌, ◌⊎◌, Bool, true, false, List, [], ◌∷◌, ◌++◌, length, min, count_by, Option, Some, None, Result, Ok, Err, codes, ⊤}
+-- Inputs of expressions and traces, and what they are answered with, whatever answers the expressions.
+use Rattle.std.specs.Prelude.{◌≡◌, ℕ, ◌+◌, ◌<◌, ◌⊎◌, Bool, true, false, List, [], ◌∷◌, ◌++◌, length, min, Option, Some, None, Result, Ok, Err, codes, ⊤}
 use Rattle.std.specs.Fmt.{decimal}
 use Rattle.std.specs.List.{flat_map, position}
 use Rattle.std.specs.Str.{bytes_eq}
@@ -17,20 +17,11 @@ use Rattle.rsx_tck.specs.Grammar.{AreTrace}
 use Rattle.rsx_tck.specs.Opening.{HasTaken, IsWrongLast, LacksEnd}
 use Rattle.rsx_demand.specs.Demand.{saturating_total}
 use Rattle.rsx_demand.specs.declared.TheConstants.{UNBOUNDED}
-use Rattle.rsx_tck.specs.Explained.{IsExplainedText, is_broken, is_held, summary_text}
+use Rattle.rsx_tck.specs.Explained.{IsExplainedText}
 use Rattle.rsx_tck.specs.Report.{IsReportText}
-use Rattle.rsx_tck.specs.declared.explain.Summary.{Summary}
-use Rattle.rsx_demo.specs.Demo.{demo_meaning}
-use Rattle.rsx_demo.specs.declared.val.Val.{Val}
-use Rattle.rsx_model.specs.Check.{refusal as refusal_of_expression}
 use Rattle.rsx_model.specs.declared.check.BadExpr.{BadExpr}
 use Rattle.rsx_model.specs.declared.check.BadExpr.TheVariants.{Depth, Nodes, Inputs, Number, Chain, Hub, Length}
-use Rattle.rsx_model.specs.declared.expr.Expr.{Expr}
 use Rattle.rsx_script.specs.Commands.{expression_of_line}
-use Rattle.rsx_script.specs.Orders.{tree_of}
-use Rattle.rsx_verify.specs.declared.line.Line.{Line}
-use Rattle.rsx_verify.specs.Reports.{AreUnbroken, AreVerified}
-use Rattle.rsx_verify.specs.Texts.{lines_text}
 use Rattle.rsx_drive.specs.declared.judge.InputJudge.{InputJudge}
 use Rattle.rsx_drive.specs.declared.judge.Style.{Style}
 use Rattle.rsx_drive.specs.declared.judge.Style.TheVariants.{Plain, Explained}
@@ -63,23 +54,6 @@ number_behind count = saturating_total count 1
 abbrev pub title_text : List ℕ → ℕ → List ℕ
 title_text what number = what ++ (codes " at line " ++ (decimal number ++ codes ": "))
 
--- how many rules these lines on the runs of an expression find held, and how many they find broken
-abbrev pub summary_of_runs : List Line → Summary
-summary_of_runs lines = record { held = count_by (λ line. is_held line.verdict) lines; broken = count_by (λ line. is_broken line.verdict) lines }
-
--- the lines on the runs of an expression; explained, how many rules they find held and broken
-abbrev pub verified_text : Style → ℕ → List Line → List ℕ
-verified_text Plain number lines = lines_text lines
-verified_text Explained number lines = title_text (codes "expression") number ++ summary_text (summary_of_runs lines)
-
--- The lines on the runs of an expression, none of which is broken.
-pub record IsVerifiedText (style : Style) (number : ℕ) (e : Expr Val) (text : List ℕ) : Type 0 where
-  pub admitted : refusal_of_expression 0 e ≡ None
-  pub lines : List Line
-  pub verified : AreVerified demo_meaning e lines
-  pub unbroken : AreUnbroken lines
-  pub printed : text ≡ verified_text style number lines
-
 -- why an expression isn't run, in plain words
 abbrev pub reason_text : BadExpr → List ℕ
 reason_text Depth = codes "it is deeper than 32 nodes"
@@ -95,37 +69,32 @@ abbrev pub refused_text : Style → ℕ → BadExpr → List ℕ
 refused_text Plain number k = codes "refused M1" ++ 10 ∷ []
 refused_text Explained number k = title_text (codes "expression") number ++ (codes "refused M1, " ++ (reason_text k ++ codes "\n"))
 
--- What answers an expression on the line with this number: the lines on its runs; where it goes past a limit or reads a hub, one
--- line that it is refused.
-abbrev pub IsExpressionAnswer : Style → ℕ → Expr Val → List ℕ → Type 0
-IsExpressionAnswer style number e text = IsVerifiedText style number e text ⊎ ((k : BadExpr) × (refusal_of_expression 0 e ≡ Some k) × (text ≡ refused_text style number k))
-
--- the expression that a line is was answered by this text
-abbrev pub IsLineAnswer : Style → ℕ → List ℕ → List ℕ → Type 0
-IsLineAnswer style number line text = (e : Expr Val) × (expression_of_line line ≡ Ok (tree_of e)) × IsExpressionAnswer style number e text
-
 -- a trace whose first line has this number was answered by this text: its report; explained, the one that explains itself
 abbrev pub IsTraceAnswer : Style → ℕ → List Stamped → List ℕ → Type 0
 IsTraceAnswer Plain number events text = IsReportText events text
 IsTraceAnswer Explained number events text = (report : List ℕ) × IsExplainedText number events report × (text ≡ title_text (codes "trace") number ++ report)
 
+-- by which text the expression is answered that a line is, which has this number
+abbrev pub ExpressionAnswers : Type 1
+ExpressionAnswers = Style → ℕ → List ℕ → List ℕ → Type 0
+
 -- A part of an input with its answer, where its first line has this number: a blank line, which has none, an expression, or the
 -- lines of a trace, with its report.
-abbrev pub IsPart : Style → ℕ → List (List ℕ) → List ℕ → Type 0
-IsPart style number part answer =
+abbrev pub IsPart : ExpressionAnswers → Style → ℕ → List (List ℕ) → List ℕ → Type 0
+IsPart expressions style number part answer =
     ((line : List ℕ) × IsBlank line × (part ≡ line ∷ []) × (answer ≡ []))
-    ⊎ (((line : List ℕ) × IsLineAnswer style number line answer × (part ≡ line ∷ []))
+    ⊎ (((line : List ℕ) × expressions style number line answer × (part ≡ line ∷ []))
     ⊎ ((events : List Stamped) × AreTrace part events × IsTraceAnswer style number events answer))
 
 -- each of these parts, which stand behind so many lines, has its answer
-abbrev pub AreParts : Style → ℕ → List (List (List ℕ) × List ℕ) → Type 0
-AreParts style before [] = ⊤
-AreParts style before (p ∷ parts) = IsPart style (number_behind before) p.0 p.1 × AreParts style (before + length p.0) parts
+abbrev pub AreParts : ExpressionAnswers → Style → ℕ → List (List (List ℕ) × List ℕ) → Type 0
+AreParts expressions style before [] = ⊤
+AreParts expressions style before (p ∷ parts) = IsPart expressions style (number_behind before) p.0 p.1 × AreParts expressions style (before + length p.0) parts
 
 -- These lines are parts, one after the other, and the text is their answers.
-pub record AreJudged (style : Style) (lines : List (List ℕ)) (text : List ℕ) : Type 0 where
+pub record AreJudgedBy (expressions : ExpressionAnswers) (style : Style) (lines : List (List ℕ)) (text : List ℕ) : Type 0 where
   pub parts : List (List (List ℕ) × List ℕ)
-  pub answered : AreParts style 0 parts
+  pub answered : AreParts expressions style 0 parts
   pub whole : lines ≡ flat_map (λ p. p.0) parts
   pub answers : text ≡ flat_map (λ p. p.1) parts
 
@@ -148,11 +117,11 @@ IsBadNext opening [] refusal = (refusal ≡ Syntax 1) × (0 < length opening) ×
 IsBadNext opening (line ∷ others) refusal = ((refusal ≡ TooLong) × (4096 < length line)) ⊎ IsBadBehind opening line refusal
 
 -- After these lines, which were answered by this text, the others can't be read, for this reason, or memory is wanted.
-pub record IsRefusedAfter (style : Style) (lines : List (List ℕ)) (text : List ℕ) (others : List (List ℕ)) (refusal : LineRefusal) : Type 0 where
+pub record IsRefusedBy (expressions : ExpressionAnswers) (style : Style) (lines : List (List ℕ)) (text : List ℕ) (others : List (List ℕ)) (refusal : LineRefusal) : Type 0 where
   pub done : List (List ℕ)
   pub opening : List (List ℕ)
   pub split : lines ≡ done ++ opening
-  pub judged : AreJudged style done text
+  pub judged : AreJudgedBy expressions style done text
   pub bad : (refusal ≡ NoMemory) ⊎ IsBadNext opening others refusal
 
 -- what a reader has taken of a trace whose `end` hasn't come; nothing, where there is no reader
@@ -166,18 +135,18 @@ IsBegunAt None first done = ⊤
 IsBegunAt (Some reader) first done = first ≡ number_behind (length done)
 
 -- the lines so far were answered by this text
-pub record StandsFor (style : Style) (judge : InputJudge) (lines : List (List ℕ)) (text : List ℕ) : Type 0 where
+pub record StandsFor {E : Type 0} (expressions : ExpressionAnswers) (style : Style) (judge : InputJudge E) (lines : List (List ℕ)) (text : List ℕ) : Type 0 where
   pub styled : judge.style ≡ style
   pub counted : judge.lines ≡ min UNBOUNDED (length lines)
   pub done : List (List ℕ)
   pub opening : List (List ℕ)
   pub split : lines ≡ done ++ opening
-  pub judged : AreJudged style done text
+  pub judged : AreJudgedBy expressions style done text
   pub taken : IsOpen judge.reader opening
   pub begun : IsBegunAt judge.reader judge.first done
 
 -- an input in the middle of the trace that the reader has begun
-abbrev pub judging : InputJudge → TraceReader → InputJudge
+abbrev pub judging : {E : Type 0} → InputJudge E → TraceReader → InputJudge E
 judging judge reader = record judge { reader = Some reader }
 
 -- why a line of a trace couldn't be read, as a refusal of a line

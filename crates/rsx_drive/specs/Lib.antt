@@ -4,9 +4,6 @@ pub mod Drawings
 pub mod Drawn
 pub mod JudgeLaws
 pub mod Judged
-pub mod Laws
-pub mod Modes
 pub mod Names
-pub mod Scripts
 pub mod Taken
 pub mod Text

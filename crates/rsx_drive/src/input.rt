@@ -8,12 +8,12 @@ ghost use Rattle.rsx_script.specs.Words.{is_written};
 ghost use Rattle.rsx_tck.specs.Texts.{lines};
 ghost use Rattle.rsx_demand.specs.Demand.{saturating_total};
 ghost use Rattle.rsx_drive.specs.Answered.{Grows, IsStopped, Writes};
-ghost use Rattle.rsx_drive.specs.Judged.{AreJudged, IsRefusedAfter, IsTraceAnswer, StandsFor, begins_trace, judging, number_behind, refusal_of};
+ghost use Rattle.rsx_drive.specs.Judged.{AreJudgedBy, IsRefusedBy, IsTraceAnswer, StandsFor, begins_trace, judging, number_behind, refusal_of};
 ghost use Rattle.rsx_drive.specs.JudgeLaws.{line_too_long, memory_wanted, memory_wanted_last};
 ghost use Rattle.rsx_drive.specs.declared.judge.Style.{Style};
 ghost use Rattle.rsx_drive.specs.declared.judge.Style.TheVariants.{Plain, Explained};
 
-use crate::expression::answer_expression;
+use crate::expressions::AnswersExpressions;
 use crate::judge::{InputJudge, Style};
 use crate::texts::report_text;
 use crate::{Answers, answer_lines};
@@ -24,16 +24,14 @@ use std::alloc::Global;
 use std::io::{Read, Write};
 
 /// Answers the expressions and the traces that the reader gives, in any order, until the input ends. An expression stands on a
-/// line of its own, in the language of scripts, over the functions of the demonstration; a trace of either format begins with a
-/// line whose first word is `trace`. In the style `Plain` each is answered by 43 lines to the writer, one for each rule, as
-/// `1.1 held`, `1.1 broken at 6` or `1.2 not judged: permits`. Those of an expression say what its runs, which are made here, say
-/// of the rules, and none of them is broken; an expression that goes past a limit or reads a hub is answered by the one line
-/// `refused M1`. Lines outside a trace that are empty or spaces alone have no answer. A last line needs no newline.
+/// line of its own, in the language of scripts, over the functions of the demonstration, and is answered as `expressions` does; a
+/// trace of either format begins with a line whose first word is `trace`. In the style `Plain` a trace is answered by 43 lines to
+/// the writer, one for each rule, as `1.1 held`, `1.1 broken at 6` or `1.2 not judged: permits`. Lines outside a trace that are
+/// empty or spaces alone have no answer. A last line needs no newline.
 ///
-/// In the style `Explained` each is answered by a line as `trace at line 3: 11 rules held, 2 broken` or
-/// `expression at line 1: 13 rules held, 0 broken`, with the number of its first line, at most 2^63-1. Of a trace two lines for
-/// each broken rule follow, with the event that breaks it and the rule's sentence ([`print_explained`](rsx_tck::print_explained)).
-/// An expression that isn't run is answered by the reason: `expression at line 1: refused M1, a number is out of its limit`.
+/// In the style `Explained` a trace is answered by a line as `trace at line 3: 11 rules held, 2 broken`, with the number of its
+/// first line, at most 2^63-1, and two lines for each broken rule, with the event that breaks it and the rule's sentence
+/// ([`print_explained`](rsx_tck::print_explained)).
 ///
 /// # Errors
 ///
@@ -42,22 +40,23 @@ use std::io::{Read, Write};
 /// the line after the last, where the input ends inside a trace; `TooLong` where it has more than 4,096 bytes. `Io` where a read
 /// or a write failed, or a read more than 16,777,216 would be needed; `Memory` where a growth was refused. What comes before
 /// has been answered then; after a fault of `Io` nothing more is written, and what was written begins these answers.
-pub fn judge_input<R: Read, W: Write>(
+pub fn judge_lines<E: AnswersExpressions + Drop, R: Read, W: Write>(
     alloc: Global,
+    expressions: E,
     style: Style,
     reader: &mut R,
     writer: &mut W,
 ) -> Result<(), AppFault>
     // The whole input is expressions, traces and blank lines, and their answers were written, and nothing else.
     ensures judged { OnOk result (IfSome (R.remaining reader.old) (λ input.
-        Writes (W.contents writer.old) (W.contents writer.new) (λ text. AreJudged style (lines input) text))) }
+        Writes (W.contents writer.old) (W.contents writer.new) (λ text. AreJudgedBy E.answers style (lines input) text))) }
     // The answers to what comes before the fault were written, and nothing else; where a read or a write failed, the last of
     // these answers may not have been written.
     ensures stopped { IfErr result (λ fault. IfSome (R.remaining reader.old) (λ input.
-        Writes (W.contents writer.old) (W.contents writer.new) (λ text. IsStopped (IsRefusedAfter style) (lines input) text fault))) }
+        Writes (W.contents writer.old) (W.contents writer.new) (λ text. IsStopped (IsRefusedBy E.answers style) (lines input) text fault))) }
     ensures fault { IfErr result IsRunFault }
 {
-    let judge = InputJudge::new(style);
+    let judge = InputJudge::new(expressions, style);
     match style {
         Style::Plain => answer_lines(alloc, PlainInput { judge }, reader, writer),
         Style::Explained => answer_lines(alloc, ExplainedInput { judge }, reader, writer),
@@ -117,12 +116,13 @@ fn add_report(
     }
 }
 
-impl InputJudge {
+impl<E: AnswersExpressions> InputJudge<E> {
     /// At the start of an input.
-    fn new(style: Style) -> InputJudge
-        ensures { StandsFor style result [] [] }
+    fn new(expressions: E, style: Style) -> InputJudge<E>
+        ensures { StandsFor E.answers style result [] [] }
     {
         InputJudge {
+            expressions,
             style,
             lines: 0,
             reader: None,
@@ -137,10 +137,10 @@ impl InputJudge {
     /// Why it can't be read, or `NoMemory`; the text is then as it was.
     fn take_in(&mut self, alloc: Global, line: &[u8], out: &mut String) -> Result<(), LineRefusal>
         requires small { length line.now ≤ 4096 }
-        ensures answered { OnOk result ((style : Style) (lines : List (List ℕ)) (text : List ℕ) → StandsFor style self.old lines text →
-            Grows (string_bytes out.old) (string_bytes out.new) (λ more. StandsFor style self.new (lines ++ line.now ∷ []) (text ++ more))) }
+        ensures answered { OnOk result ((style : Style) (lines : List (List ℕ)) (text : List ℕ) → StandsFor E.answers style self.old lines text →
+            Grows (string_bytes out.old) (string_bytes out.new) (λ more. StandsFor E.answers style self.new (lines ++ line.now ∷ []) (text ++ more))) }
         ensures refused { IfErr result (λ refusal. (style : Style) (lines : List (List ℕ)) (text : List ℕ) (others : List (List ℕ)) →
-            StandsFor style self.old lines text → IsRefusedAfter style lines text (line.now ∷ others) refusal) }
+            StandsFor E.answers style self.old lines text → IsRefusedBy E.answers style lines text (line.now ∷ others) refusal) }
         ensures same { OnErr result (string_bytes out.new ≡ string_bytes out.old) }
     {
         match self.reader.take() {
@@ -155,9 +155,9 @@ impl InputJudge {
     ///
     /// That it ends inside a trace.
     fn finish(&self) -> Result<(), LineRefusal>
-        ensures ended { OnOk result ((style : Style) (lines : List (List ℕ)) (text : List ℕ) → StandsFor style self.now lines text → AreJudged style lines text) }
+        ensures ended { OnOk result ((style : Style) (lines : List (List ℕ)) (text : List ℕ) → StandsFor E.answers style self.now lines text → AreJudgedBy E.answers style lines text) }
         ensures refused { IfErr result (λ refusal. (style : Style) (lines : List (List ℕ)) (text : List ℕ) →
-            StandsFor style self.now lines text → IsRefusedAfter style lines text [] refusal) }
+            StandsFor E.answers style self.now lines text → IsRefusedBy E.answers style lines text [] refusal) }
     {
         match self.reader {
             None => Ok(()),
@@ -169,10 +169,10 @@ impl InputJudge {
     fn begin(&mut self, alloc: Global, line: &[u8], out: &mut String) -> Result<(), LineRefusal>
         requires between { self.old.reader ≡ None }
         requires small { length line.now ≤ 4096 }
-        ensures answered { OnOk result ((style : Style) (lines : List (List ℕ)) (text : List ℕ) → StandsFor style self.old lines text →
-            Grows (string_bytes out.old) (string_bytes out.new) (λ more. StandsFor style self.new (lines ++ line.now ∷ []) (text ++ more))) }
+        ensures answered { OnOk result ((style : Style) (lines : List (List ℕ)) (text : List ℕ) → StandsFor E.answers style self.old lines text →
+            Grows (string_bytes out.old) (string_bytes out.new) (λ more. StandsFor E.answers style self.new (lines ++ line.now ∷ []) (text ++ more))) }
         ensures refused { IfErr result (λ refusal. (style : Style) (lines : List (List ℕ)) (text : List ℕ) (others : List (List ℕ)) →
-            StandsFor style self.old lines text → IsRefusedAfter style lines text (line.now ∷ others) refusal) }
+            StandsFor E.answers style self.old lines text → IsRefusedBy E.answers style lines text (line.now ∷ others) refusal) }
         ensures same { OnErr result (string_bytes out.new ≡ string_bytes out.old) }
     {
         let number = saturating_total(self.lines, 1);
@@ -186,7 +186,10 @@ impl InputJudge {
                 Err(refusal) => Err(refusal),
             };
         }
-        match answer_expression(alloc, self.style, number, line, out) {
+        match self
+            .expressions
+            .answer(alloc, self.style, number, line, out)
+        {
             Ok(()) => {
                 self.lines = number;
                 Ok(())
@@ -201,10 +204,10 @@ impl InputJudge {
         requires numbered { number ≡ number_behind self.old.lines }
         requires begins { begins_trace line.now ≡ true }
         requires small { length line.now ≤ 4096 }
-        ensures answered { OnOk result ((style : Style) (lines : List (List ℕ)) (text : List ℕ) → StandsFor style self.old lines text →
-            StandsFor style self.new (lines ++ line.now ∷ []) (text ++ [])) }
+        ensures answered { OnOk result ((style : Style) (lines : List (List ℕ)) (text : List ℕ) → StandsFor E.answers style self.old lines text →
+            StandsFor E.answers style self.new (lines ++ line.now ∷ []) (text ++ [])) }
         ensures refused { IfErr result (λ refusal. (style : Style) (lines : List (List ℕ)) (text : List ℕ) (others : List (List ℕ)) →
-            StandsFor style self.old lines text → IsRefusedAfter style lines text (line.now ∷ others) refusal) }
+            StandsFor E.answers style self.old lines text → IsRefusedBy E.answers style lines text (line.now ∷ others) refusal) }
     {
         match TraceReader::new(alloc, line) {
             Ok(reader) => {
@@ -227,10 +230,10 @@ impl InputJudge {
     ) -> Result<(), LineRefusal>
         requires between { self.old.reader ≡ None }
         requires small { length line.now ≤ 4096 }
-        ensures answered { OnOk result ((style : Style) (lines : List (List ℕ)) (text : List ℕ) → StandsFor style (judging self.old reader) lines text →
-            Grows (string_bytes out.old) (string_bytes out.new) (λ more. StandsFor style self.new (lines ++ line.now ∷ []) (text ++ more))) }
+        ensures answered { OnOk result ((style : Style) (lines : List (List ℕ)) (text : List ℕ) → StandsFor E.answers style (judging self.old reader) lines text →
+            Grows (string_bytes out.old) (string_bytes out.new) (λ more. StandsFor E.answers style self.new (lines ++ line.now ∷ []) (text ++ more))) }
         ensures refused { IfErr result (λ refusal. (style : Style) (lines : List (List ℕ)) (text : List ℕ) (others : List (List ℕ)) →
-            StandsFor style (judging self.old reader) lines text → IsRefusedAfter style lines text (line.now ∷ others) refusal) }
+            StandsFor E.answers style (judging self.old reader) lines text → IsRefusedBy E.answers style lines text (line.now ∷ others) refusal) }
         ensures same { OnErr result (string_bytes out.new ≡ string_bytes out.old) }
     {
         let number = saturating_total(self.lines, 1);
@@ -254,18 +257,18 @@ impl InputJudge {
     }
 }
 
-/// An input that is answered by 43 lines for each expression and each trace.
+/// An input in which each trace is answered by 43 lines, and each expression in that style.
 #[derive(Drop)]
-struct PlainInput {
-    judge: InputJudge,
+struct PlainInput<E> {
+    judge: InputJudge<E>,
 }
 
-impl Answers for PlainInput {
-    ghost stands = { λ input. StandsFor Plain input.judge };
+impl<E: AnswersExpressions> Answers for PlainInput<E> {
+    ghost stands = { λ input. StandsFor E.answers Plain input.judge };
 
-    ghost ends = { AreJudged Plain };
+    ghost ends = { AreJudgedBy E.answers Plain };
 
-    ghost refuses = { IsRefusedAfter Plain };
+    ghost refuses = { IsRefusedBy E.answers Plain };
 
     fn answer(&mut self, alloc: Global, line: &[u8], out: &mut String) -> Result<(), LineRefusal> {
         self.judge.take_in(alloc, line, out)
@@ -275,25 +278,25 @@ impl Answers for PlainInput {
         self.judge.finish()
     }
 
-    ghost too_long = { λ input. line_too_long Plain input.judge };
+    ghost too_long = { λ input. line_too_long E.answers Plain input.judge };
 
-    ghost wanting = { λ input. memory_wanted Plain input.judge };
+    ghost wanting = { λ input. memory_wanted E.answers Plain input.judge };
 
-    ghost wanting_last = { memory_wanted_last Plain };
+    ghost wanting_last = { memory_wanted_last E.answers Plain };
 }
 
 /// An input whose expressions and traces are answered with explanations.
 #[derive(Drop)]
-struct ExplainedInput {
-    judge: InputJudge,
+struct ExplainedInput<E> {
+    judge: InputJudge<E>,
 }
 
-impl Answers for ExplainedInput {
-    ghost stands = { λ input. StandsFor Explained input.judge };
+impl<E: AnswersExpressions> Answers for ExplainedInput<E> {
+    ghost stands = { λ input. StandsFor E.answers Explained input.judge };
 
-    ghost ends = { AreJudged Explained };
+    ghost ends = { AreJudgedBy E.answers Explained };
 
-    ghost refuses = { IsRefusedAfter Explained };
+    ghost refuses = { IsRefusedBy E.answers Explained };
 
     fn answer(&mut self, alloc: Global, line: &[u8], out: &mut String) -> Result<(), LineRefusal> {
         self.judge.take_in(alloc, line, out)
@@ -303,9 +306,9 @@ impl Answers for ExplainedInput {
         self.judge.finish()
     }
 
-    ghost too_long = { λ input. line_too_long Explained input.judge };
+    ghost too_long = { λ input. line_too_long E.answers Explained input.judge };
 
-    ghost wanting = { λ input. memory_wanted Explained input.judge };
+    ghost wanting = { λ input. memory_wanted E.answers Explained input.judge };
 
-    ghost wanting_last = { memory_wanted_last Explained };
+    ghost wanting_last = { memory_wanted_last E.answers Explained };
 }

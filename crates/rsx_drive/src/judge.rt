@@ -13,7 +13,9 @@ pub enum Style {
 
 /// An input of expressions and traces that is being read.
 #[derive(Drop)]
-pub struct InputJudge {
+pub struct InputJudge<E> {
+    /// What answers its expressions.
+    pub expressions: E,
     /// How it is answered.
     pub style: Style,
     /// How many lines came so far, at most 2^63-1.

@@ -1,63 +1,25 @@
-//! What answers an expression or a trace, as text.
+//! What answers a trace, or an expression that isn't run, as text.
 
 ghost use Rattle.std.specs.Prelude.{◌≡◌, ◌++◌, OnOk, IfOk};
 ghost use Rattle.std.specs.String.{string_bytes};
-ghost use Rattle.rsx_drive.specs.Judged.{IsTraceAnswer, reason_text, refused_text, summary_of_runs, title_text, verified_text};
+ghost use Rattle.rsx_drive.specs.Judged.{IsTraceAnswer, reason_text, refused_text, title_text};
 
 use crate::judge::Style;
 use rsx_model::BadExpr;
-use rsx_tck::{Stamped, Summary, print_explained, print_report};
+use rsx_tck::{Stamped, print_explained, print_report};
 use rsx_types::NoMemory;
-use rsx_verify::{Line, print_lines};
 use std::alloc::Global;
 
 /// Adds to the text what begins an answer that explains: what is answered, and the number of its first line.
-fn add_title(what: &str, number: u64, out: &mut String) -> Result<(), NoMemory>
-    ensures { OnOk result (string_bytes out.new ≡ string_bytes out.old ++ title_text what.now number) }
-{
-    write!(out, "{what} at line {number}: ")?;
-    Ok(())
-}
-
-/// How many rules these lines on the runs of an expression find held, and how many they find broken.
-fn summary_of_runs(lines: &[Line]) -> Summary
-    ensures { result ≡ summary_of_runs lines.now }
-{
-    let held = lines.iter().filter(|line| line.verdict.is_held()).count();
-    let broken = lines.iter().filter(|line| line.verdict.is_broken()).count();
-    Summary {
-        held: held as u64,
-        broken: broken as u64,
-    }
-}
-
-/// What answers the expression on the line with this number, of which these are the lines on its runs.
 ///
 /// # Errors
 ///
 /// `NoMemory` where a growth was refused.
-pub fn runs_text(
-    alloc: Global,
-    style: Style,
-    number: u64,
-    lines: &[Line],
-) -> Result<String, NoMemory>
-    ensures { IfOk result (λ text. string_bytes text ≡ verified_text style number lines.now) }
+pub fn add_title(what: &str, number: u64, out: &mut String) -> Result<(), NoMemory>
+    ensures { OnOk result (string_bytes out.new ≡ string_bytes out.old ++ title_text what.now number) }
 {
-    match style {
-        Style::Plain => print_lines(alloc, lines),
-        Style::Explained => explained_runs(alloc, number, lines),
-    }
-}
-
-/// The same where it is explained.
-fn explained_runs(alloc: Global, number: u64, lines: &[Line]) -> Result<String, NoMemory>
-    ensures { IfOk result (λ text. string_bytes text ≡ verified_text Style.Explained number lines.now) }
-{
-    let mut text = String::new(alloc);
-    add_title("expression", number, &mut text)?;
-    summary_of_runs(lines).add_to(&mut text)?;
-    Ok(text)
+    write!(out, "{what} at line {number}: ")?;
+    Ok(())
 }
 
 /// Why an expression isn't run, in plain words.

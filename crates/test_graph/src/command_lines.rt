@@ -1,7 +1,7 @@
 //! Command lines.
 
 use clap::error::ErrorKind;
-use rsx_drive::command_line_of;
+use rsx_modes::command_line_of;
 use rsx_script::{Mode, Subcommand};
 use std::alloc::Global;
 use std::test::Fail;

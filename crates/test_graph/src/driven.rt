@@ -1,6 +1,6 @@
 //! A reader and a writer that fail, and what a run over them comes to.
 
-use rsx_drive::drive;
+use rsx_modes::drive;
 use rsx_script::{AppFault, Mode};
 use std::alloc::Global;
 use std::io;

@@ -1,6 +1,6 @@
 //! Answers that explain, of traces and expressions.
 
-use rsx_drive::{Style, judge_input};
+use rsx_modes::{Style, judge_input};
 use rsx_script::{AppFault, LineRefusal};
 
 /// A trace that breaks a rule, an expression, one that isn't run, a blank line, and a trace that breaks none; then a line that

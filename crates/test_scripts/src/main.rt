@@ -17,7 +17,7 @@ mod trial;
 
 use crate::trial::{Compared, compare};
 use anyhow::Result;
-use rsx_drive::drive;
+use rsx_modes::drive;
 use rsx_script::{Mode, mode_named};
 use std::io;
 use std::io::Write;

@@ -3,7 +3,7 @@ use Rattle.rsx_demand.specs.declared.TheConstants.{UNBOUNDED}
 use Rattle.rsx_drive.proofs.judge.InputJudge.new.Goals as goal
 
 pub returns : goal.returns
-returns c =
+returns g c =
     let none : 0 ≡ min UNBOUNDED 0 = omega arith in
     record {
       styled = refl;

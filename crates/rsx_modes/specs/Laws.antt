@@ -9,7 +9,7 @@ use Rattle.rsx_script.specs.Commands.{line_at, meaning_of_line}
 use Rattle.rsx_session.specs.Sessions.{place_of}
 use Rattle.rsx_session.specs.declared.session.Session.{Session}
 use Rattle.rsx_session.specs.declared.session.View.{View}
-use Rattle.rsx_drive.specs.Scripts.{HasAnswered, IsBadFirst, IsScript, IsScriptStopped}
+use Rattle.rsx_modes.specs.Scripts.{HasAnswered, IsBadFirst, IsScript, IsScriptStopped}
 
 -- what was answered so far is a script
 pub script : (view : View) (session : Session) (lines : List (List ℕ)) (text : List ℕ) → HasAnswered view session lines text → IsScript view lines text

@@ -8,7 +8,7 @@ use Rattle.rsx_session.specs.Places.{IsAnswerTo, Place, begun}
 use Rattle.rsx_session.specs.Sessions.{LeadsAll, place_of}
 use Rattle.rsx_session.specs.declared.session.Session.{Session}
 use Rattle.rsx_session.specs.declared.session.View.{View}
-use Rattle.rsx_drive.specs.Scripts.{AreAnswered, HasAnswered, IsLineAnswered}
+use Rattle.rsx_modes.specs.Scripts.{AreAnswered, HasAnswered, IsLineAnswered}
 
 -- one line more, behind the others
 more_answered : (view : View) (lines : List (List ℕ)) (line : List ℕ) (old mid new : Place) (text more : List ℕ) → AreAnswered view lines old text mid → IsLineAnswered view line mid more new → AreAnswered view (lines ++ line ∷ []) old (text ++ more) new

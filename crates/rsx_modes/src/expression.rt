@@ -1,14 +1,13 @@
 //! Answers an expression by what its runs say of the rules.
 
-ghost use Rattle.std.specs.Prelude.{◌≡◌, ◌⊎◌, Err, OnOk, OnErr, IfOk, IfErr};
+ghost use Rattle.std.specs.Prelude.{◌≡◌, OnOk, OnErr, IfOk, IfErr};
 ghost use Rattle.std.specs.String.{string_bytes};
-ghost use Rattle.rsx_script.specs.Commands.{expression_of_line};
 ghost use Rattle.rsx_drive.specs.Answered.{Grows};
-ghost use Rattle.rsx_drive.specs.Judged.{IsExpressionAnswer, IsLineAnswer};
+ghost use Rattle.rsx_modes.specs.Judged.{IsExpressionAnswer, IsLineAnswer};
 
-use crate::judge::Style;
-use crate::texts::{refusal_text, runs_text};
+use crate::texts::runs_text;
 use rsx_demo::{Demo, Val};
+use rsx_drive::{AnswersExpressions, Style, refusal_text};
 use rsx_model::Expr;
 use rsx_script::{LineRefusal, parse_expression};
 use rsx_types::NoMemory;
@@ -52,27 +51,27 @@ fn add_answer(
     }
 }
 
-/// Adds to the text what answers the expression that the line with this number is.
-///
-/// # Errors
-///
-/// Why the line is no expression, or `NoMemory`; the text is then as it was.
-pub fn answer_expression(
-    alloc: Global,
-    style: Style,
-    number: u64,
-    line: &[u8],
-    out: &mut String,
-) -> Result<(), LineRefusal>
-    ensures added { OnOk result (Grows (string_bytes out.old) (string_bytes out.new) (λ more. IsLineAnswer style number line.now more)) }
-    ensures same { OnErr result (string_bytes out.new ≡ string_bytes out.old) }
-    ensures bad { IfErr result (λ refusal. (refusal ≡ LineRefusal.NoMemory) ⊎ (expression_of_line line.now ≡ Err refusal)) }
-{
-    match parse_expression(alloc, line) {
-        Ok(expr) => match add_answer(alloc, style, number, &expr, out) {
-            Ok(()) => Ok(()),
+/// Answers an expression by what its runs say of the rules.
+#[derive(Drop)]
+pub(crate) struct Runs;
+
+impl AnswersExpressions for Runs {
+    ghost answers = { IsLineAnswer };
+
+    fn answer(
+        &self,
+        alloc: Global,
+        style: Style,
+        number: u64,
+        line: &[u8],
+        out: &mut String,
+    ) -> Result<(), LineRefusal> {
+        match parse_expression(alloc, line) {
+            Ok(expr) => match add_answer(alloc, style, number, &expr, out) {
+                Ok(()) => Ok(()),
+                Err(refusal) => Err(refusal),
+            },
             Err(refusal) => Err(refusal),
-        },
-        Err(refusal) => Err(refusal),
+        }
     }
 }

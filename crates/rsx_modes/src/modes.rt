@@ -4,11 +4,11 @@ ghost use Rattle.std.specs.Prelude.{IfSome, OnOk, IfErr};
 ghost use Rattle.rsx_script.specs.Fault.{IsRunFault};
 ghost use Rattle.rsx_tck.specs.Texts.{lines};
 ghost use Rattle.rsx_drive.specs.Answered.{IsStopped, Writes};
-ghost use Rattle.rsx_drive.specs.Modes.{IsAnsweredIn, IsStoppedIn};
+ghost use Rattle.rsx_modes.specs.Modes.{IsAnsweredIn, IsStoppedIn};
 
-use crate::draw::draw_expressions;
+use crate::judge::judge_input;
 use crate::script::answer_script;
-use crate::{Style, judge_input};
+use rsx_drive::{Style, draw_expressions};
 use rsx_script::{AppFault, Mode};
 use rsx_session::View;
 use std::alloc::Global;

@@ -6,10 +6,10 @@ ghost use Rattle.rsx_script.specs.Fault.{IsRunFault};
 ghost use Rattle.rsx_tck.specs.Texts.{lines};
 ghost use Rattle.rsx_drive.specs.Answered.{Grows, IsStopped, Writes};
 ghost use Rattle.rsx_session.specs.declared.session.View.TheVariants.{Received, FromScratch};
-ghost use Rattle.rsx_drive.specs.Laws.{line_too_long, memory_wanted, memory_wanted_last};
-ghost use Rattle.rsx_drive.specs.Scripts.{HasAnswered, IsBadLine, IsScript, IsScriptStopped};
+ghost use Rattle.rsx_modes.specs.Laws.{line_too_long, memory_wanted, memory_wanted_last};
+ghost use Rattle.rsx_modes.specs.Scripts.{HasAnswered, IsBadLine, IsScript, IsScriptStopped};
 
-use crate::{Answers, answer_lines};
+use rsx_drive::{Answers, answer_lines};
 use rsx_script::{AppFault, LineRefusal, parse_line};
 use rsx_session::{Session, View};
 use std::alloc::Global;

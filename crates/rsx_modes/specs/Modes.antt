@@ -4,10 +4,10 @@ use Rattle.rsx_script.specs.declared.mode.Mode.{Mode}
 use Rattle.rsx_script.specs.declared.mode.Mode.TheVariants.{Run, Scratch, Draw, Tck}
 use Rattle.rsx_session.specs.declared.session.View.TheVariants.{Received, FromScratch}
 use Rattle.rsx_drive.specs.Answered.{Refuses}
-use Rattle.rsx_drive.specs.Judged.{AreJudged, IsRefusedAfter}
+use Rattle.rsx_modes.specs.Judged.{AreJudged, IsRefusedAfter}
 use Rattle.rsx_drive.specs.declared.judge.Style.TheVariants.{Plain}
 use Rattle.rsx_drive.specs.Drawings.{AreDrawn, IsDrawingStopped}
-use Rattle.rsx_drive.specs.Scripts.{IsScript, IsScriptStopped}
+use Rattle.rsx_modes.specs.Scripts.{IsScript, IsScriptStopped}
 
 -- the lines of a whole input were answered by this text
 abbrev pub IsAnsweredIn : Mode → List (List ℕ) → List ℕ → Type 0

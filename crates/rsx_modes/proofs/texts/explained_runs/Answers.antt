@@ -2,7 +2,7 @@ use Rattle.std.proofs.Common.{◌≡◌, ◌++◌, codes, ap, ◌∙◌}
 use Rattle.std.specs.String.{string_bytes}
 use Rattle.rsx_tck.specs.Explained.{summary_text}
 use Rattle.rsx_drive.specs.Judged.{title_text}
-use Rattle.rsx_drive.proofs.texts.explained_runs.Goals as goal
+use Rattle.rsx_modes.proofs.texts.explained_runs.Goals as goal
 
 pub returns : goal.returns
 returns c =

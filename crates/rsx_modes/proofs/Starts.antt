@@ -5,7 +5,7 @@ use Rattle.rsx_session.specs.Sessions.{SessionStands}
 use Rattle.rsx_session.specs.declared.session.Session.{Session}
 use Rattle.rsx_session.specs.declared.session.View.{View}
 use Rattle.rsx_session.proofs.Starts.{at_begin}
-use Rattle.rsx_drive.specs.Scripts.{HasAnswered}
+use Rattle.rsx_modes.specs.Scripts.{HasAnswered}
 
 -- it has answered no line so far
 pub begins : (view shows : View) (session : Session) → session.view ≡ shows → shows ≡ view → SessionStands session no_history → HasAnswered view session [] []

@@ -1,8 +1,8 @@
 use Rattle.std.proofs.Common.{[], sym, ◌∷◌, ◌++◌}
 use Rattle.std.specs.String.{string_bytes}
 use Rattle.std.proofs.lemmas.List.{append-nil}
-use Rattle.rsx_drive.proofs.Lines.{blank_answered, line_answered}
-use Rattle.rsx_drive.proofs.script.answer_line.Goals as goal
+use Rattle.rsx_modes.proofs.Lines.{blank_answered, line_answered}
+use Rattle.rsx_modes.proofs.script.answer_line.Goals as goal
 
 pub returns-in-Ok-None-clause-answered : goal.returns-in-Ok-None-clause-answered
 returns-in-Ok-None-clause-answered c = λ view lines text s. (

@@ -1,0 +1,3 @@
+-- Lemmas about what answers the lines of a script.
+pub mod Lines
+pub mod Starts
