@@ -40,7 +40,8 @@ impl<O: Ops> StartedGraph<O> {
         ensures some { IfSome result (λ p. ChangesAt region self.old.seats.items self.new.seats.items (λ was now. Went p.answer was.me.0.steps now.me.0.steps)) }
         ensures none { IfNone result ((length self.old.seats.items ≤ region) × (self.new ≡ self.old)) }
     {
-        self.live.subs.poke(alloc, &mut self.seats, region, budget)
+        let live = &self.live;
+        live.subs.poke(alloc, &mut self.seats, region, budget)
     }
 
     /// Takes the next signal that was delivered to this subscription, if one waits, as [`Tap::take`] does. A subscription that has no tap
