@@ -1,8 +1,8 @@
 //! An expression that is run, where its items find no memory.
 
 use rsx_demo::{Demo, Val};
-use rsx_modes::{VerifyRefusal, verify};
 use rsx_model::Expr;
+use rsx_modes::{VerifyRefusal, verify};
 use rsx_types::{Fault, NoMemory, Ops};
 use std::alloc::Global;
 
