@@ -87,16 +87,27 @@ fn drive(alloc: Global, started: &mut StartedGraph<Demo>, sub: SubId) -> Result<
     ensures { IsStarted started.new }
 {
     for _ in 0..CALLS {
-        poke_named(alloc, started)?;
-        match started.take(sub) {
-            Some(Signal::Next(_)) => {}
-            Some(Signal::Complete | Signal::Error(_)) => return Ok(()),
-            None => {
-                started.request(sub, 1);
-            }
+        if has_ended(alloc, started, sub)? {
+            return Ok(());
         }
     }
     bail!("the subscription hasn't ended")
+}
+
+/// Pokes, and takes a signal or requests an item. It answers whether the signal was the ending.
+fn has_ended(alloc: Global, started: &mut StartedGraph<Demo>, sub: SubId) -> Result<bool>
+    requires { IsStarted started.old }
+    ensures { IsStarted started.new }
+{
+    poke_named(alloc, started)?;
+    match started.take(sub) {
+        Some(Signal::Next(_)) => Ok(false),
+        Some(Signal::Complete | Signal::Error(_)) => Ok(true),
+        None => {
+            started.request(sub, 1);
+            Ok(false)
+        }
+    }
 }
 
 /// Pokes all regions, and then those that are named, until none is. Then a poke finds nothing to do.

@@ -1,5 +1,5 @@
 use Rattle.std.proofs.Common.{◌∙◌, ap, refl, slice_get}
-use Rattle.rsx_live.below.rsx_live_parts.proofs.Taps.{read_there, tap_over, taps_set}
+use Rattle.rsx_live_parts.proofs.Taps.{read_there, tap_over, taps_set}
 use Rattle.test_live.proofs.Cancelling.{halved, of_same, tap_of_same}
 use Rattle.test_live.proofs.beside.canceller_at.Goals as goal
 

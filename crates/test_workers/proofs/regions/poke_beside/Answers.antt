@@ -5,8 +5,8 @@ use Rattle.rsx_gate.below.atomic_table.proofs.shared.Seat.TheSendSync as Seat
 use Rattle.rsx_runtime.proofs.Crosses.{live, region}
 use Rattle.test_workers.proofs.regions.poke_beside.Goals as goal
 
-pub join-poked-requires-send-F : goal.join-poked-requires-send-F
-join-poked-requires-send-F g c κs within =
+pub join-requires-send-F : goal.join-requires-send-F
+join-requires-send-F g c κs within =
     let nodes = c.type_bounds.send-N in
     let items = c.type_bounds.send-T in
     let functions = c.type_bounds.sync-O in
