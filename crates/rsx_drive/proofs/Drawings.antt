@@ -1,17 +1,11 @@
 -- The drawing of inputs, one behind the other, as a loop writes them.
 use Rattle.std.proofs.Common.{◌≡◌, ℕ, ◌+◌, ◌<◌, List, [], ◌∷◌, ◌++◌, length, get_or, map, take, refl, sym, ap, ◌∙◌, append_assoc, arith, Result, Ok, Err}
-use Rattle.std.specs.Prelude.{zero, suc, OnOk}
+use Rattle.std.specs.Prelude.{zero, suc, IfOk, OnOk}
 use Rattle.std.proofs.lemmas.List.{append-nil, map_push, take_more}
 use Rattle.rsx_demo.specs.declared.val.Val.{Val}
 use Rattle.rsx_model.specs.declared.expr.Expr.{Expr}
-use Rattle.rsx_model.specs.declared.expr.Expr.TheFolds.{fold_out-Expr, map-Expr}
-use Rattle.rsx_model.specs.declared.expr.Expr.TheViews.{out-Expr}
-use Rattle.rsx_script.specs.Orders.{Tree, node_of, tree_of, trees_of}
+use Rattle.rsx_script.specs.Orders.{Tree, tree_of, trees_of}
 use Rattle.rsx_drive.specs.Drawn.{all_nodes, all_rows_text, indent_text, nodes, rows_text}
-
--- one level of an expression
-pub tree_out : (e : Expr Val) → tree_of e ≡ node_of (map-Expr Val (Expr Val) Tree tree_of (out-Expr Val e))
-tree_out e = fold_out-Expr Val Tree node_of e
 
 -- a line is indented by one level more
 pub indent_more : (d : ℕ) → indent_text d ++ 32 ∷ 32 ∷ [] ≡ indent_text (d + 1)
@@ -63,3 +57,8 @@ put_below first mid new row below h k = k ∙ ap (λ l. l ++ below) h ∙ append
 pub put_on : {X E : Type 0} (r : Result X E) (first mid new row below whole : List ℕ) → mid ≡ first ++ row → whole ≡ row ++ below → OnOk r (new ≡ mid ++ below) → OnOk r (new ≡ first ++ whole)
 put_on (Ok x) first mid new row below whole h e k = put_below first mid new row below h k ∙ ap (λ l. first ++ l) (sym e)
 put_on (Err x) first mid new row below whole h e k = k
+
+-- the number behind the nodes below a node is that behind all of its nodes
+pub count_on : {E : Type 0} (r : Result ℕ E) (n below all : ℕ) → all ≡ 1 + below → IfOk r (λ next. next ≡ (n + 1) + below) → IfOk r (λ next. next ≡ n + all)
+count_on (Ok next) n below all h k = omega (arith, h, k)
+count_on (Err x) n below all h k = k

@@ -4,6 +4,7 @@ pub mod Bytes
 pub mod Drawings
 pub mod DrawnLines
 pub mod Ending
+pub mod Levels
 pub mod Parts
 pub mod Put
 pub mod Reading

@@ -1,10 +1,10 @@
 -- The text of inputs, one behind the other, as a loop writes them.
-use Rattle.std.proofs.Common.{◌≡◌, ℕ, ◌+◌, ◌<◌, List, [], ◌∷◌, ◌++◌, length, get_or, map, take, refl, sym, ap, ◌∙◌, append_assoc}
+use Rattle.std.proofs.Common.{◌≡◌, ℕ, ◌+◌, ◌<◌, List, [], ◌∷◌, ◌++◌, length, get_or, map, take, sym, ap, ◌∙◌, append_assoc}
 use Rattle.std.specs.Prelude.{codes}
 use Rattle.std.proofs.lemmas.List.{append-nil, map_push, take_more}
 use Rattle.rsx_demo.specs.declared.val.Val.{Val}
 use Rattle.rsx_model.specs.declared.expr.Expr.{Expr}
-use Rattle.rsx_script.specs.Orders.{Tree, Trees, tree_of, trees_of}
+use Rattle.rsx_script.specs.Orders.{Tree, tree_of, trees_of}
 use Rattle.rsx_drive.specs.Text.{tree_text, trees_text}
 
 one_behind : (us : List Tree) (t : Tree) → trees_text (trees_of (us ++ t ∷ [])) ≡ trees_text (trees_of us) ++ (codes " " ++ tree_text t)
@@ -20,15 +20,3 @@ one_more xs i x h e =
     ap (λ l. trees_text (trees_of (map tree_of l))) more
     ∙ ap (λ l. trees_text (trees_of l)) (map_push tree_of (take i xs) x)
     ∙ one_behind (map tree_of (take i xs)) (tree_of x))
-
--- ---- what is written behind the beginning of an operator
-
--- two words, each with a space behind it
-pub behind_two : (x y r : List ℕ) → (x ++ (32 ∷ (y ++ 32 ∷ []))) ++ r ≡ x ++ (32 ∷ (y ++ (32 ∷ r)))
-behind_two x y r = append_assoc x (32 ∷ (y ++ 32 ∷ [])) r ∙ ap (λ l. x ++ (32 ∷ l)) (append_assoc y (32 ∷ []) r)
-
--- a word, and a chain in its parentheses, each with a space behind it
-pub behind_chain : (x s r : List ℕ) → (x ++ (32 ∷ 40 ∷ (s ++ 41 ∷ 32 ∷ []))) ++ r ≡ x ++ (32 ∷ 40 ∷ ((s ++ 41 ∷ []) ++ (32 ∷ r)))
-behind_chain x s r =
-    append_assoc x (32 ∷ 40 ∷ (s ++ 41 ∷ 32 ∷ [])) r
-    ∙ ap (λ l. x ++ (32 ∷ 40 ∷ l)) (append_assoc s (41 ∷ 32 ∷ []) r ∙ sym (append_assoc s (41 ∷ []) (32 ∷ r)))

@@ -5,9 +5,8 @@ ghost use Rattle.std.specs.String.{string_bytes};
 ghost use Rattle.rsx_script.specs.Orders.{tree_of, trees_of};
 ghost use Rattle.rsx_drive.specs.Drawn.{all_nodes, all_rows_text, drawn_text, indent_text, nodes, row_text, rows_text};
 
-use crate::line::{Chain, Items, OneStage};
-use crate::names::Named;
-use rsx_demo::{Role, Val};
+use crate::operator::{Operator, inputs_of};
+use rsx_demo::Val;
 use rsx_model::Expr;
 use rsx_types::NoMemory;
 use std::alloc::Global;
@@ -49,21 +48,7 @@ fn add_tree(
     ensures small { IfOk result (λ next. next ≤ length (string_bytes text.new)) }
 {
     add_row(depth, number, expr, text)?;
-    match expr {
-        Expr::Items(_) | Expr::Range(_, _) | Expr::Hub(_) => Ok(number + 1),
-        Expr::Plain(_, below) => add_tree(depth + 1, number + 1, below, text),
-        Expr::Concat(inputs) => add_trees(depth + 1, number + 1, inputs, text),
-        Expr::Merge(_, inputs) => add_trees(depth + 1, number + 1, inputs, text),
-        Expr::MergeDelay(_, inputs) => add_trees(depth + 1, number + 1, inputs, text),
-        Expr::Zip(_, inputs) => add_trees(depth + 1, number + 1, inputs, text),
-        Expr::Latest(_, inputs) => add_trees(depth + 1, number + 1, inputs, text),
-        Expr::Group(_, _, below) => add_tree(depth + 1, number + 1, below, text),
-        Expr::Window(_, _, below) => add_tree(depth + 1, number + 1, below, text),
-        Expr::Flat(_, _, _, below) => add_tree(depth + 1, number + 1, below, text),
-        Expr::FlatDelay(_, _, _, below) => add_tree(depth + 1, number + 1, below, text),
-        Expr::On(_, _, below) => add_tree(depth + 1, number + 1, below, text),
-        Expr::OnEager(_, _, below) => add_tree(depth + 1, number + 1, below, text),
-    }
+    add_trees(depth + 1, number + 1, inputs_of(expr), text)
 }
 
 /// The same of several expressions, one after the other.
@@ -113,51 +98,5 @@ impl fmt::Display for Indent {
             f.write_str("  ")?;
         }
         Ok(())
-    }
-}
-
-/// The operator at the root of an expression.
-#[derive(Clone, Copy)]
-struct Operator<'e>(&'e Expr<Val>);
-
-/// As its line has it, without the parentheses and the inputs.
-impl fmt::Display for Operator<'_> {
-    ghost use Rattle.std.specs.Prelude.{Some};
-    ghost use Rattle.rsx_script.specs.Orders.{tree_of};
-    ghost use Rattle.rsx_drive.specs.Drawn.{operator_text};
-
-    ghost output = { λ operator. Some (operator_text (tree_of operator.0.now)) };
-
-    fn fmt<W: fmt::Write>(&self, f: &mut fmt::Formatter<W>) -> fmt::Result {
-        match self.0 {
-            Expr::Items(items) => write!(f, "items{}", Items(items)),
-            Expr::Range(first, count) => write!(f, "range {first} {count}"),
-            Expr::Hub(hub) => write!(f, "hub {}", hub.0),
-            Expr::Plain(stage, _) => write!(f, "{}", OneStage(stage)),
-            Expr::Concat(_) => f.write_str("concat"),
-            Expr::Merge(prefetch, _) => write!(f, "merge {prefetch}"),
-            Expr::MergeDelay(prefetch, _) => write!(f, "mergeDelayError {prefetch}"),
-            Expr::Zip(prefetch, _) => write!(f, "zip {prefetch}"),
-            Expr::Latest(prefetch, _) => write!(f, "combineLatest {prefetch}"),
-            Expr::Group(key, stages, _) => {
-                let key = Named(Role::Key, *key);
-                write!(f, "groupBy {key} ({})", Chain(stages))
-            }
-            Expr::Window(size, stages, _) => write!(f, "window {size} ({})", Chain(stages)),
-            Expr::Flat(expand, concurrency, stages, _) => {
-                let expand = Named(Role::Expand, *expand);
-                write!(f, "flatMap {expand} {concurrency} ({})", Chain(stages))
-            }
-            Expr::FlatDelay(expand, concurrency, stages, _) => {
-                let expand = Named(Role::Expand, *expand);
-                write!(
-                    f,
-                    "flatMapDelayError {expand} {concurrency} ({})",
-                    Chain(stages)
-                )
-            }
-            Expr::On(worker, prefetch, _) => write!(f, "publishOn {worker} {prefetch}"),
-            Expr::OnEager(worker, prefetch, _) => write!(f, "publishOnEager {worker} {prefetch}"),
-        }
     }
 }

@@ -10,7 +10,7 @@
 //! - `texts`: what answers a trace there, and an expression that isn't run.
 //! - `line` and `names`: [`Line`], the line of a script that an expression is, and [`function_name`], the name that scripts have for
 //!   a function.
-//! - `drawing`: [`drawn`], the drawing of an expression.
+//! - `drawing`: [`drawn`], the drawing of an expression; and `operator`, the words of an operator, which a line and a drawing share.
 //! - `law`: [`reads_back`], that a line is read as the expression that it was written for.
 //!
 //! # Line by line
@@ -43,6 +43,7 @@ mod judge;
 mod law;
 mod line;
 mod names;
+mod operator;
 mod run;
 mod state;
 mod texts;

@@ -1,7 +1,7 @@
 use Rattle.std.proofs.Common.{take}
 use Rattle.std.specs.Fmt.{HasWritten, IsPlainFormatter}
 use Rattle.rsx_script.specs.Answers.{items_text}
-use Rattle.rsx_drive.proofs.line.ItemsDisplay.fmt.Given as goal
+use Rattle.rsx_drive.proofs.operator.ItemsDisplay.fmt.Given as goal
 
 abbrev pub invariant-loop-item : goal.invariant-loop-item
 invariant-loop-item g l =

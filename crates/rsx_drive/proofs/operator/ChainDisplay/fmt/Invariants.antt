@@ -3,7 +3,7 @@ use Rattle.std.specs.Prelude.{codes}
 use Rattle.std.specs.Fmt.{HasWritten, IsPlainFormatter}
 use Rattle.std.specs.List.{flat_map}
 use Rattle.rsx_drive.specs.Text.{stage_text}
-use Rattle.rsx_drive.proofs.line.ChainDisplay.fmt.Given as goal
+use Rattle.rsx_drive.proofs.operator.ChainDisplay.fmt.Given as goal
 
 abbrev pub invariant-loop-other : goal.invariant-loop-other
 invariant-loop-other g l =
