@@ -93,53 +93,97 @@ pub fn command_line_of<'a>(alloc: Global, words: &'a [String]) -> Result<Command
     }
 }
 
+/// An option of this name, as `--explain`.
+fn option<'a>(alloc: Global, name: &'a str) -> Arg<'a> {
+    Arg::new(alloc, name).long(name)
+}
+
 /// The option `--explain`, of which help says this.
 fn explain<'a>(alloc: Global, help: &'a str) -> Arg<'a> {
-    Arg::new(alloc, EXPLAIN)
-        .long(EXPLAIN)
-        .help(help)
-        .action(ArgAction::SetTrue)
+    let explain = option(alloc, EXPLAIN).help(help);
+    explain.action(ArgAction::SetTrue)
+}
+
+/// The option with a value, which is the name of a file.
+fn naming_file<'a>(option: Arg<'a>) -> Arg<'a> {
+    option.value_name("FILE").action(ArgAction::Set)
+}
+
+/// The option `--trace`.
+fn trace<'a>(alloc: Global) -> Arg<'a> {
+    naming_file(option(alloc, TRACE).help(TRACED))
+}
+
+/// A command of this name, of which help says this at its beginning and at its end.
+fn described<'a>(alloc: Global, name: &'a str, about: &'a str, end: &'a str) -> Command<'a> {
+    Command::new(alloc, name).about(about).after_help(end)
+}
+
+/// A subcommand with the option `--explain`: its name, what its help says at its beginning and at its end, and what it says of the
+/// option.
+fn mode_of<'a>(
+    alloc: Global,
+    name: &'a str,
+    about: &'a str,
+    end: &'a str,
+    explained: &'a str,
+) -> Result<Command<'a>, Error> {
+    let mode = described(alloc, name, about, end);
+    Ok(mode.arg(explain(alloc, explained))?)
+}
+
+/// The program with one more such subcommand.
+fn with_mode<'a>(
+    alloc: Global,
+    program: Command<'a>,
+    name: &'a str,
+    about: &'a str,
+    end: &'a str,
+    explained: &'a str,
+) -> Result<Command<'a>, Error> {
+    let mode = mode_of(alloc, name, about, end, explained)?;
+    Ok(program.subcommand(mode)?)
+}
+
+/// The subcommand `run`.
+fn run_of<'a>(alloc: Global) -> Result<Command<'a>, Error> {
+    let about = "Answers each command of a script";
+    let run = mode_of(alloc, "run", about, SCRIPT, EXPECTED)?;
+    Ok(run.arg(trace(alloc))?)
+}
+
+/// The program without a subcommand `help`.
+fn without_help<'a>(program: Command<'a>) -> Command<'a> {
+    program.disable_help_subcommand(true)
+}
+
+/// The program, which asks for a subcommand.
+fn asking<'a>(program: Command<'a>) -> Command<'a> {
+    program.subcommand_required(true)
+}
+
+/// The program with no subcommand yet.
+fn bare_program<'a>(alloc: Global) -> Command<'a> {
+    let about =
+        "Runs scripts over graphs of reactive streams, draws expressions, and judges expressions, and traces of publishers and subscribers";
+    asking(without_help(described(alloc, "rsx", about, STATUS)))
+}
+
+/// The program with the subcommand `run`.
+fn running_program<'a>(alloc: Global) -> Result<Command<'a>, Error> {
+    let run = run_of(alloc)?;
+    let program = bare_program(alloc).subcommand(run)?;
+    Ok(program.bin_name("rsx")?)
 }
 
 /// What `clap` is told of the program.
 fn program_of<'a>(alloc: Global) -> Result<Command<'a>, Error> {
-    let trace = Arg::new(alloc, TRACE)
-        .long(TRACE)
-        .value_name("FILE")
-        .help(TRACED)
-        .action(ArgAction::Set);
-    let run = Command::new(alloc, "run")
-        .about("Answers each command of a script")
-        .after_help(SCRIPT)
-        .arg(explain(alloc, EXPECTED))?
-        .arg(trace)?;
-    let scratch = Command::new(alloc, "scratch")
-        .about("The same, but shows values evaluated from scratch")
-        .after_help(SCRIPT)
-        .arg(explain(alloc, EXPECTED))?;
-    let draw = Command::new(alloc, "draw")
-        .about("Draws expressions")
-        .after_help(DRAWN)
-        .arg(explain(alloc, EXPECTED))?;
-    let tck = Command::new(alloc, "tck")
-        .about("Judges expressions and traces by the rules of Reactive Streams")
-        .after_help(JUDGED)
-        .arg(explain(alloc, EXPLAINED))?;
-    let live = Command::new(alloc, "live")
-        .about("Answers each command of a script whose graph may go live and come back")
-        .after_help(LIVE);
-    let program = Command::new(alloc, "rsx")
-        .bin_name("rsx")?
-        .about(
-            "Runs scripts over graphs of reactive streams, draws expressions, and judges expressions, and traces of publishers and subscribers",
-        )
-        .after_help(STATUS)
-        .disable_help_subcommand(true)
-        .subcommand_required(true)
-        .subcommand(run)?
-        .subcommand(scratch)?
-        .subcommand(draw)?
-        .subcommand(tck)?
-        .subcommand(live)?;
-    Ok(program)
+    let program = running_program(alloc)?;
+    let about = "The same, but shows values evaluated from scratch";
+    let program = with_mode(alloc, program, "scratch", about, SCRIPT, EXPECTED)?;
+    let program = with_mode(alloc, program, "draw", "Draws expressions", DRAWN, EXPECTED)?;
+    let about = "Judges expressions and traces by the rules of Reactive Streams";
+    let program = with_mode(alloc, program, "tck", about, JUDGED, EXPLAINED)?;
+    let about = "Answers each command of a script whose graph may go live and come back";
+    Ok(program.subcommand(described(alloc, "live", about, LIVE))?)
 }
