@@ -67,8 +67,8 @@ IsOpen c = (is_over c ≡ false) × GoesOn c
 
 -- an item comes out as it is; or it is let go; or it comes back, and nothing has changed
 abbrev pub GoesThrough : {T : Type 0} → ℕ → List (Stage T) → CurrentWindow T → T → Passed T → CurrentWindow T → Type 0
-GoesThrough {T} n gs old x (Item y) new = IsOpen new × ((m : Meaning T) (v : Stream T) → window_left m n gs old (item_then x v) ≡ item_then y (window_left m n gs new v))
-GoesThrough {T} n gs old x Kept new = IsOpen new × ((m : Meaning T) (v : Stream T) → window_left m n gs old (item_then x v) ≡ window_left m n gs new v)
+GoesThrough {T} n gs old x (Item y) new = (is_over old ≡ false) × IsOpen new × ((m : Meaning T) (v : Stream T) → window_left m n gs old (item_then x v) ≡ item_then y (window_left m n gs new v))
+GoesThrough {T} n gs old x Kept new = (is_over old ≡ false) × IsOpen new × ((m : Meaning T) (v : Stream T) → window_left m n gs old (item_then x v) ≡ window_left m n gs new v)
 GoesThrough n gs old x (Declined y) new = (y ≡ x) × (new ≡ old)
 
 -- ---- an ending of the input

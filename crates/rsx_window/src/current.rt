@@ -21,7 +21,7 @@ use std::alloc::Global;
 /// Where a `window` is in its input.
 #[derive(Drop)]
 pub enum CurrentWindow<T> {
-    /// A window is started: its chain has taken some items, and takes so many more behind the next one.
+    /// A window is started: its chain has taken some items, or has no operators, and it takes so many more behind the next one.
     Running(ChainState<T>, u64),
     /// So many items are let go, the rest of a window whose chain completed before it was full. The item behind them starts a
     /// window.
@@ -192,20 +192,12 @@ impl<T: Drop> CurrentWindow<T> {
     }
 
     /// Starts a window with an empty chain, which takes so many items more behind the next one.
-    // Neither this nor `finish` is inlined, so that for most items no state is prepared.
+    // It isn't inlined, so that for most items no state is prepared.
     #[inline(never)]
     fn start_empty(&mut self, more: u64)
         ensures { self.new ≡ CurrentWindow.Running ChainState.End more }
     {
         *self = CurrentWindow::Running(ChainState::End, more);
-    }
-
-    /// Ends the window that is started.
-    #[inline(never)]
-    fn finish(&mut self)
-        ensures { self.new ≡ CurrentWindow.Passing 0 }
-    {
-        *self = CurrentWindow::Passing(0);
     }
 
     /// Goes on from there.
@@ -221,6 +213,18 @@ impl<T: Drop> CurrentWindow<T> {
         ensures { GoesThrough size stages.now self.old item result self.new }
     {
         match self {
+            CurrentWindow::Running(ChainState::End, more) => {
+                if *more > 0 {
+                    *more -= 1;
+                    return Passed::Item(item);
+                }
+                if !stages.is_empty() {
+                    return Passed::Declined(item);
+                }
+                // Without operators, the next window before its first item is as a window that is started.
+                *more = size.saturating_sub(1);
+                Passed::Item(item)
+            }
             CurrentWindow::Passing(0) => {
                 if !stages.is_empty() {
                     return Passed::Declined(item);
@@ -234,14 +238,6 @@ impl<T: Drop> CurrentWindow<T> {
             CurrentWindow::Passing(left) => {
                 *left -= 1;
                 Passed::Kept
-            }
-            CurrentWindow::Running(ChainState::End, more) => {
-                if *more == 0 {
-                    self.finish();
-                    return Passed::Item(item);
-                }
-                *more -= 1;
-                Passed::Item(item)
             }
             CurrentWindow::Running(ChainState::Stage(_, _), _) | CurrentWindow::Over => {
                 Passed::Declined(item)

@@ -247,7 +247,7 @@ impl<T: Drop> Machine for WindowNode<T> {
     }
 
     fn pass<O: Ops<Item = T>>(&mut self, alloc: Global, ops: &O, input: u64, item: T) -> Passed<T> {
-        if input != 0 || !self.is_ready() || self.pending.room() == 0 {
+        if input != 0 || !self.pending.is_empty() || self.pending.room() == 0 {
             return Passed::Declined(item);
         }
         match self.current.pass(self.size, &self.stages, item) {
