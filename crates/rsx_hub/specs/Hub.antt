@@ -103,6 +103,20 @@ abbrev pub accepted : {T : Type 0} → HubState T → Option (Signal T) → HubS
 accepted h None = h
 accepted h (Some s) = taken_in (record h { inbox = drop 1 h.inbox }) s
 
+-- what a hub keeps that takes in these items: the last of those that it kept and of them
+abbrev pub kept_with : {T : Type 0} → ℕ → List T → List T → List T
+kept_with n ks [] = ks
+kept_with n ks (x ∷ xs) = keep_last n (ks ++ x ∷ xs)
+
+-- after all items of the inbox were taken in
+abbrev pub all_accepted : {T : Type 0} → HubState T → HubState T
+all_accepted h = record h { inbox = []; count = h.count + length h.inbox; kept = kept_with (replayed h.kind) h.kept h.inbox }
+
+-- the second is the first after these items were taken in, one after the other: each of them waited in front of the inbox
+abbrev pub AllByOne : {T : Type 0} → HubState T → List T → HubState T → Type 0
+AllByOne a [] b = b ≡ a
+AllByOne {T} a (x ∷ xs) b = (mid : HubState T) × (waiting a ≡ Some (Next x)) × (mid ≡ accepted a (Some (Next x))) × AllByOne mid xs b
+
 -- how many items a signal is
 abbrev pub items_of : {T : Type 0} → Signal T → ℕ
 items_of (Next x) = 1

@@ -1,5 +1,5 @@
 -- The node that reads a hub: what it offers, what still comes out of it, and how far it got.
-use Rattle.std.specs.Prelude.{◌≡◌, ℕ, ◌+◌, Bool, true, false, ◌&&◌, ◌||◌, nat_lt, List, [], ◌∷◌, length, Option, Some, None, option_map, refl}
+use Rattle.std.specs.Prelude.{◌≡◌, ℕ, ◌+◌, ◌-◌, min, Bool, false, ◌&&◌, ◌||◌, if◌then◌else◌, nat_lt, List, [], ◌∷◌, ◌++◌, length, Option, Some, None}
 use Rattle.rsx_sources.specs.Prelude.{Note, Ending, Open, Done, Failed, Signal, Next, Complete, Error, Meaning, Stream, Incoming, quiet, Reading, published_at, is_nil}
 use Rattle.rsx_sources.specs.declared.machine.Front.{Front}
 use Rattle.rsx_hub.specs.Member.{MemberState, rest, offered, IsGiven}
@@ -52,6 +52,16 @@ leaf_reads n = reading_of n.ending (record { hub = n.hub; reached = n.reached; m
 -- most items that a member may take in can leave it without room
 abbrev pub leaf_rooms : {T : Type 0} → LeafState T → Bool
 leaf_rooms n = is_open n.ending && ((is_nil n.queue || nat_lt (length n.queue) n.capacity) && nat_lt n.reached MOST_ACCEPTED)
+
+-- for how many items it has room at once
+abbrev pub leaf_spaces : {T : Type 0} → LeafState T → ℕ
+leaf_spaces n = if is_open n.ending then min (n.capacity - length n.queue) (MOST_ACCEPTED - n.reached) else 0
+
+-- after it took this signal of its hub in
+abbrev pub leaf_took : {T : Type 0} → LeafState T → Signal T → LeafState T
+leaf_took n (Next x) = record n { queue = n.queue ++ x ∷ []; reached = n.reached + 1 }
+leaf_took n Complete = record n { ending = Done }
+leaf_took n (Error c) = record n { ending = Failed c }
 
 -- what it sent and what it holds is what it had before and what its member took in
 abbrev pub leaf_counted : {T : Type 0} → LeafState T → List ℕ → ℕ → Type 0

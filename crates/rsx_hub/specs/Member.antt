@@ -1,5 +1,5 @@
 -- What a contract sees of a member, what its calls make of it, and what it still gives out.
-use Rattle.std.specs.Prelude.{◌≡◌, ℕ, ◌+◌, ◌≤◌, max, Bool, true, false, ◌&&◌, nat_lt, List, [], ◌∷◌, ◌++◌, length, drop, Option, Some, None}
+use Rattle.std.specs.Prelude.{◌≡◌, ℕ, ◌+◌, ◌-◌, ◌≤◌, min, max, Bool, true, false, ◌&&◌, if◌then◌else◌, nat_lt, List, [], ◌∷◌, ◌++◌, length, drop, Option, Some, None}
 use Rattle.rsx_sources.specs.Prelude.{Ending, Open, Done, Failed, Signal, Next, Complete, Error, Stream, ended_by, items_then, signal_then, ended_or}
 pub use Rattle.rsx_sources.specs.Reading.{IsNextAt}
 use Rattle.rsx_hub.specs.declared.TheConstants.{MOST_ACCEPTED}
@@ -84,6 +84,10 @@ abbrev pub took : {T : Type 0} → MemberState T → Signal T → MemberState T
 took m (Next x) = record m { queue = m.queue ++ x ∷ []; reached = m.reached + 1 }
 took m Complete = record m { ending = Done }
 took m (Error c) = record m { ending = Failed c }
+
+-- for how many items it has room
+abbrev pub spaces : {T : Type 0} → MemberState T → ℕ
+spaces m = if is_reading m.gone m.ending then min (m.capacity - length m.queue) (MOST_ACCEPTED - m.reached) else 0
 
 -- the signal that is offered
 abbrev pub offered : {T : Type 0} → MemberState T → Option (Signal T)

@@ -1,12 +1,13 @@
 //! The hub: an inbox, and what it keeps for new members.
 
-ghost use Rattle.std.specs.Prelude.{◌≡◌, ◌≢◌, ◌+◌, ◌<◌, ◌≤◌, ◌↔◌, [], true, false, length, IfOk, IfErr, OnOk, OnErr, IsOk, IsTrue, option_map, option_copied, slice_get};
+ghost use Rattle.std.specs.Prelude.{◌≡◌, ◌≢◌, ◌+◌, ◌<◌, ◌≤◌, ◌↔◌, ◌++◌, [], true, false, length, reverse, vec_len, vec_capacity, IfOk, IfErr, OnOk, OnErr, IsOk, IsTrue, option_map, option_copied, slice_get};
+ghost use Rattle.circular_buffer.specs.Buffer.{buffer};
 ghost use Rattle.rsx_types.specs.declared.signal.Cause.TheVariants.{User};
 ghost use Rattle.rsx_types.specs.declared.signal.Ending.TheVariants.{Done, Failed};
 ghost use Rattle.rsx_types.specs.declared.signal.Signal.TheVariants.{Next};
 ghost use Rattle.rsx_sources.specs.Machine.{front_of};
 ghost use Rattle.rsx_hub.specs.Hub as spec;
-ghost use Rattle.rsx_hub.specs.Hub.{replayed, fresh_hub, IsNotMade, accepts_items, emitted, IsRejected, ended_with, waiting, taken_in, accepted, takes_signal, IsNotTakenIn, HasTakenIn, IsNotCounted, kept_copy, IsNotAdmitted, with_members};
+ghost use Rattle.rsx_hub.specs.Hub.{replayed, fresh_hub, IsNotMade, accepts_items, emitted, IsRejected, ended_with, waiting, taken_in, accepted, all_accepted, takes_signal, IsNotTakenIn, HasTakenIn, IsNotCounted, kept_copy, IsNotAdmitted, with_members};
 ghost use Rattle.rsx_hub.specs.Member.{fresh_member, ReadsFromJoin};
 ghost use Rattle.rsx_hub.specs.Waiting.{is_open};
 ghost use Rattle.rsx_hub.specs.declared.TheConstants.{MOST_ACCEPTED, MOST_MEMBERS};
@@ -66,6 +67,17 @@ fn are_numbers(kind: HubKind, capacity: u64) -> bool
     match kind {
         HubKind::Multicast => is_capacity,
         HubKind::Replay(items) => is_capacity && 1 <= items && items <= LARGEST,
+    }
+}
+
+/// Moves all items of a buffer behind those in the list, the last one first. There is room for them.
+fn move_reversed<T: Drop>(from: &mut HeapCircularBuffer<T>, items: &mut Vec<T>)
+    requires { vec_len items.old + length from.old.items ≤ vec_capacity items.old }
+    ensures items { items.new.items ≡ items.old.items ++ reverse from.old.items }
+    ensures empty { from.new ≡ buffer [] from.old.capacity }
+{
+    while let Some(item) = from.pop_back() {
+        items.push_reserved(item);
     }
 }
 
@@ -211,6 +223,49 @@ impl<T: Drop> Hub<T> {
             items.push(copy)?;
         }
         Ok(StreamValue::new(items, self.ending))
+    }
+
+    /// Whether the hub keeps no items for new members: it is a multicast hub.
+    pub fn keeps_none(&self) -> bool
+        ensures { IsTrue result ↔ (replayed self.now.kind ≡ 0) }
+    {
+        replayed(self.kind) == 0
+    }
+
+    /// Puts copies of the items of the inbox behind those in the list, the last one first.
+    ///
+    /// # Errors
+    /// [`NoMemory`] where a growth was refused.
+    pub fn copy_inbox<O: Ops<Item = T>>(
+        &self,
+        alloc: Global,
+        ops: &O,
+        items: &mut Vec<T>,
+    ) -> Result<(), NoMemory>
+        ensures { OnOk result (items.new.items ≡ items.old.items ++ reverse self.now.inbox) }
+    {
+        for item in self.inbox.iter().rev() {
+            let copy = ops.copy(alloc, item)?;
+            items.push(copy)?;
+        }
+        Ok(())
+    }
+
+    /// Takes all items of the inbox in, one after the other, and puts them behind those in the list, the last one first: the
+    /// caller hands them to the members. The hub keeps no items for new members ([`Hub::keeps_none`]).
+    ///
+    /// # Errors
+    /// [`NoMemory`] where room for them in the list was refused. Nothing has changed.
+    pub fn accept_all(&mut self, items: &mut Vec<T>) -> Result<(), NoMemory>
+        requires multicast { replayed self.old.kind ≡ 0 }
+        ensures items { OnOk result (items.new.items ≡ items.old.items ++ reverse self.old.inbox) }
+        ensures state { OnOk result (self.new ≡ all_accepted self.old) }
+        ensures same { OnErr result ((self.new ≡ self.old) × (items.new.items ≡ items.old.items)) }
+    {
+        items.reserve(self.inbox.len())?;
+        self.count += self.len();
+        move_reversed(&mut self.inbox, items);
+        Ok(())
     }
 
     /// Takes the signal in that waits in front of the inbox, if one does, and answers it: the caller hands it to the

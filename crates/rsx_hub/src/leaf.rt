@@ -34,7 +34,7 @@ impl<T> Model for HubLeaf<T> {
 
 impl<T: Drop> HubLeaf<T> {
     ghost use Rattle.std.specs.Prelude.{◌≡◌, ◌∷◌, [], false, length, IfSome, IfNone};
-    ghost use Rattle.rsx_hub.specs.Leaf.{LeafState, member_of};
+    ghost use Rattle.rsx_hub.specs.Leaf.{LeafState, member_of, leaf_spaces};
 
     /// The node that reads the hub with this number by this member, which has not left. Nothing was sent by it yet.
     pub fn new(hub: u32, member: Member<T>) -> HubLeaf<T>
@@ -85,6 +85,13 @@ impl<T: Drop> HubLeaf<T> {
         self.member.ending()
     }
 
+    /// For how many items of its hub it has room at once.
+    pub fn spaces(&self) -> u64
+        ensures { result ≡ leaf_spaces self.now }
+    {
+        self.member.spaces()
+    }
+
     /// Takes out the oldest of the items that it holds, if there is one. All else stays. It takes no memory.
     pub fn take(&mut self) -> Option<T>
         ensures some { IfSome result (λ x. self.old ≡ record self.new { queue = x ∷ self.new.queue }) }
@@ -103,7 +110,7 @@ impl<T: Drop> Machine for HubLeaf<T> {
     ghost use Rattle.rsx_sources.specs.Machine.{TakesIn};
     ghost use Rattle.rsx_sources.specs.Reading.{IsReadOn, IsResidualOf, takes_published};
     ghost use Rattle.rsx_sources.specs.Steps.{IsNotTaken};
-    ghost use Rattle.rsx_hub.specs.Leaf.{LeafState, leaf_comes_out, leaf_waiting, leaf_shown, leaf_popped, leaf_reads, leaf_rooms, leaf_counted};
+    ghost use Rattle.rsx_hub.specs.Leaf.{LeafState, leaf_comes_out, leaf_waiting, leaf_shown, leaf_popped, leaf_reads, leaf_rooms, leaf_counted, leaf_took};
     ghost use Rattle.rsx_hub.specs.Laws.{leaf_shows, leaf_popped_alike, leaf_ends, leaf_ends_reading, leaf_hungry};
     ghost use Rattle.std.proofs.Common.{rules};
 
@@ -223,6 +230,7 @@ impl<T: Drop> Machine for HubLeaf<T> {
 
     fn on_published(&mut self, signal: Signal<T>) -> Result<(), Signal<T>>
         ensures ok { OnOk result (IsReadOn leaf_comes_out leaf_reads self.old signal self.new) }
+        ensures state { OnOk result (self.new ≡ leaf_took self.old signal) }
         ensures enabled { OnOk result (takes_published (leaf_reads self.old) (leaf_rooms self.old) signal ≡ true) }
         ensures counts { OnOk result (CountsStep leaf_counted (λ n. false) (λ n i. false) self.old self.new) }
         ensures refused { OnErr result (takes_published (leaf_reads self.old) (leaf_rooms self.old) signal ≡ false) }

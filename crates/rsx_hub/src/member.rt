@@ -3,6 +3,7 @@
 ghost use Rattle.std.specs.Prelude.{◌≡◌, ◌+◌, ◌<◌, ◌≤◌, ◌↔◌, ◌∷◌, ◌++◌, [], true, false, length, IfOk, IfErr, OnOk, OnErr, IfSome, IfNone, IsTrue, option_map, List, ℕ, max};
 ghost use Rattle.rsx_types.specs.Stream.{Stream, signal_then};
 ghost use Rattle.rsx_sources.specs.Machine.{front_of};
+ghost use Rattle.rsx_hub.specs.Member as spec;
 ghost use Rattle.rsx_hub.specs.Member.{MemberState, empty_member, GivesFirst, rest, is_reading, takes_items, takes, took, IsNextAt, offered, given, left, IsGiven, rest_before};
 ghost use Rattle.rsx_types.specs.declared.signal.Ending.TheVariants.{Open};
 ghost use Rattle.rsx_hub.specs.declared.TheConstants.{LARGEST, MOST_ACCEPTED};
@@ -105,6 +106,17 @@ impl<T: Drop> Member<T> {
         self.is_reading()
             && (self.queue.len() as u64) < self.capacity
             && self.reached < MOST_ACCEPTED
+    }
+
+    /// For how many items of the hub it has room: so many of them can be taken in one after the other, with nothing given out.
+    pub fn spaces(&self) -> u64
+        ensures { result ≡ spec.spaces self.now }
+    {
+        if !self.is_reading() {
+            return 0;
+        }
+        let room = self.capacity.saturating_sub(self.queue.len() as u64);
+        room.min(MOST_ACCEPTED - self.reached)
     }
 
     /// Takes in a signal of the hub: an item where [`Member::can_take_in`], an ending where it has not left and none was

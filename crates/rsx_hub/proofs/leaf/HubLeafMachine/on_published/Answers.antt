@@ -1,5 +1,5 @@
-use Rattle.std.proofs.Common.{◌≡◌}
 use Rattle.rsx_hub.proofs.Leaves.{counts_on, read_on, refused_is}
+use Rattle.rsx_hub.proofs.Spaces.{took_on}
 use Rattle.rsx_hub.proofs.leaf.HubLeafMachine.on_published.Goals as goal
 
 pub returns-clause-ok : goal.returns-clause-ok
@@ -10,3 +10,6 @@ returns-clause-refused g c = rw (← c.self.view_is) (refused_is c.self.inside.h
 
 pub returns-clause-counts : goal.returns-clause-counts
 returns-clause-counts g c = rw (← c.self.view_is) (counts_on c.self.inside.hub c.self.inside.missed c.self.inside.before c.self.inside.member c.take_in.new.self c.args.signal c.take_in.result c.take_in.ensures.ok)
+
+pub returns-clause-state : goal.returns-clause-state
+returns-clause-state g c = rw (← c.self.view_is) (took_on c.self.inside.hub c.self.inside.missed c.self.inside.before c.self.inside.member c.take_in.new.self c.args.signal c.take_in.result c.take_in.ensures.ok)
