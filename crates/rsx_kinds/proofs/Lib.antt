@@ -20,5 +20,6 @@ pub mod Several
 pub mod SeveralDispatch
 pub mod Single
 pub mod SteppedOut
+pub mod TakenOff
 pub mod Wants
 pub mod Windows

@@ -24,6 +24,7 @@ pub mod SeveralLaws
 pub mod Source
 pub mod SourceLaws
 pub mod SourcesRests
+pub mod Spaces
 pub mod TreeLaws
 pub mod Went
 pub mod ZipRests

@@ -1,7 +1,8 @@
 //! Batches through nodes of any kind. Ranges make them, and plain operators, a concat, a merge, a combineLatest and a `publishOn` with an
-//! empty queue pass them on.
+//! empty queue pass them on. A node that reads a hub takes in several of its items at once.
 
 ghost use Rattle.std.specs.Prelude.{◌≡◌, [], true};
+ghost use Rattle.rsx_kinds.specs.Spaces.{any_spaces, source_spaces};
 ghost use Rattle.rsx_kinds.specs.Went.{any_went, several_went, source_went};
 ghost use Rattle.rsx_merging.specs.PublishOn.{publish_takes};
 
@@ -15,6 +16,8 @@ use std::alloc::Global;
 
 impl<T: Drop> Batches for SourceNode<T> {
     ghost went = { source_went };
+
+    ghost spaces_of = { source_spaces };
 
     #[inline]
     fn most(&self) -> u64 {
@@ -56,10 +59,26 @@ impl<T: Drop> Batches for SourceNode<T> {
             SourceNode::Items(_) | SourceNode::Hub(_) => {},
         }
     }
+
+    fn spaces(&self) -> u64 {
+        match self {
+            SourceNode::Hub(node) => node.spaces(),
+            SourceNode::Items(_) | SourceNode::Range(_) => 0,
+        }
+    }
+
+    fn take_in_many(&mut self, items: &mut Vec<T>, count: u64) {
+        match self {
+            SourceNode::Hub(node) => node.take_in_many(items, count),
+            SourceNode::Items(_) | SourceNode::Range(_) => {},
+        }
+    }
 }
 
 impl<T: Drop> Batches for SeveralNode<T> {
     ghost went = { several_went };
+
+    ghost spaces_of = { λ n. 0 };
 
     #[inline]
     fn most(&self) -> u64 {
@@ -165,10 +184,18 @@ impl<T: Drop> Batches for SeveralNode<T> {
             SeveralNode::MergeDelay(_) | SeveralNode::Zip(_) => {},
         }
     }
+
+    fn spaces(&self) -> u64 {
+        0
+    }
+
+    fn take_in_many(&mut self, items: &mut Vec<T>, count: u64) {}
 }
 
 impl<T: Drop> Batches for AnyNode<T> {
     ghost went = { any_went };
+
+    ghost spaces_of = { any_spaces };
 
     #[inline]
     fn most(&self) -> u64 {
@@ -244,6 +271,36 @@ impl<T: Drop> Batches for AnyNode<T> {
             AnyNode::Plain(node) => node.go_on(noted),
             AnyNode::Several(node) => node.go_on(noted),
             AnyNode::PublishOn(_)
+            | AnyNode::PublishOnEager(_)
+            | AnyNode::Window(_)
+            | AnyNode::FlatMap(_)
+            | AnyNode::FlatMapDelay(_)
+            | AnyNode::GroupBy(_) => {},
+        }
+    }
+
+    #[inline]
+    fn spaces(&self) -> u64 {
+        match self {
+            AnyNode::Source(node) => node.spaces(),
+            AnyNode::Plain(_)
+            | AnyNode::Several(_)
+            | AnyNode::PublishOn(_)
+            | AnyNode::PublishOnEager(_)
+            | AnyNode::Window(_)
+            | AnyNode::FlatMap(_)
+            | AnyNode::FlatMapDelay(_)
+            | AnyNode::GroupBy(_) => 0,
+        }
+    }
+
+    #[inline]
+    fn take_in_many(&mut self, items: &mut Vec<T>, count: u64) {
+        match self {
+            AnyNode::Source(node) => node.take_in_many(items, count),
+            AnyNode::Plain(_)
+            | AnyNode::Several(_)
+            | AnyNode::PublishOn(_)
             | AnyNode::PublishOnEager(_)
             | AnyNode::Window(_)
             | AnyNode::FlatMap(_)

@@ -296,6 +296,8 @@ impl<N: Machine> Machine for Boxed<N> {
 impl<N: Batches> Batches for Boxed<N> {
     ghost went = { N.went };
 
+    ghost spaces_of = { N.spaces_of };
+
     #[inline]
     fn most(&self) -> u64 {
         self.node.most()
@@ -326,5 +328,15 @@ impl<N: Batches> Batches for Boxed<N> {
         ensures { N.went self.old noted self.new }
     {
         self.node.go_on(noted)
+    }
+
+    #[inline]
+    fn spaces(&self) -> u64 {
+        self.node.spaces()
+    }
+
+    #[inline]
+    fn take_in_many(&mut self, items: &mut Vec<Self::Item>, count: u64) {
+        self.node.take_in_many(items, count)
     }
 }

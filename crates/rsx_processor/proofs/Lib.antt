@@ -3,3 +3,4 @@ pub mod Batched
 pub mod Kept
 pub mod Passed
 pub mod Taken
+pub mod TakenOff

@@ -1,7 +1,7 @@
 //! Batches through nodes of one of two kinds. An operator of a caller's own takes its items one by one.
 
 ghost use Rattle.std.specs.Prelude.{◌≡◌};
-ghost use Rattle.rsx_processor.specs.Either.{OfOneKind};
+ghost use Rattle.rsx_processor.specs.Either.{OfOneKind, by_kind};
 
 use crate::{EitherNode, Processor, ProcessorNode};
 use rsx_rooted::{Batches, Noted};
@@ -10,6 +10,8 @@ use std::alloc::Global;
 
 impl<A: Batches, B: Batches<Item = A::Item>> Batches for EitherNode<A, B> {
     ghost went = { λ old noted new. OfOneKind (λ x y. A.went x noted y) (λ x y. B.went x noted y) old new };
+
+    ghost spaces_of = { by_kind A.spaces_of B.spaces_of };
 
     #[inline]
     fn most(&self) -> u64 {
@@ -54,10 +56,26 @@ impl<A: Batches, B: Batches<Item = A::Item>> Batches for EitherNode<A, B> {
             EitherNode::Right(node) => node.go_on(noted),
         }
     }
+
+    fn spaces(&self) -> u64 {
+        match self {
+            EitherNode::Left(node) => node.spaces(),
+            EitherNode::Right(node) => node.spaces(),
+        }
+    }
+
+    fn take_in_many(&mut self, items: &mut Vec<Self::Item>, count: u64) {
+        match self {
+            EitherNode::Left(node) => node.take_in_many(items, count),
+            EitherNode::Right(node) => node.take_in_many(items, count),
+        }
+    }
 }
 
 impl<P: Processor<Item = T>, T: Drop> Batches for ProcessorNode<P, T> {
     ghost went = { λ old noted new. new ≡ old };
+
+    ghost spaces_of = { λ n. 0 };
 
     fn most(&self) -> u64 {
         0
@@ -87,4 +105,10 @@ impl<P: Processor<Item = T>, T: Drop> Batches for ProcessorNode<P, T> {
     fn go_on(&mut self, noted: Noted<T>)
         ensures { self.new ≡ self.old }
     {}
+
+    fn spaces(&self) -> u64 {
+        0
+    }
+
+    fn take_in_many(&mut self, items: &mut Vec<T>, count: u64) {}
 }

@@ -2,6 +2,7 @@
 pub mod Counted
 pub mod CutNodes
 pub mod Fetches
+pub mod HubLeaves
 pub mod Joined
 pub mod Leaves
 pub mod Linked
@@ -23,6 +24,7 @@ pub mod Senders
 pub mod Sends
 pub mod Signals
 pub mod Splices
+pub mod TakenOff
 pub mod Trees
 pub mod Tries
 pub mod Whole

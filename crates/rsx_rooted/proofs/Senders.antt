@@ -18,6 +18,7 @@ use Rattle.rsx_sources.specs.declared.machine.Machine.{Ghosts as Machine}
 use Rattle.rsx_sources.specs.declared.machine.Passed.TheVariants.{Kept}
 use Rattle.rsx_tree.specs.Fetched.{IsOut}
 use Rattle.rsx_rooted.specs.Items.{ArePassed, ArePopped, IsIn, IsOutBy}
+use Rattle.rsx_rooted.specs.Taking.{IsItemTaken}
 use Rattle.rsx_rooted.specs.Went.{inside, sender_went}
 use Rattle.rsx_rooted.specs.declared.batch.Noted.{Noted}
 use Rattle.rsx_rooted.proofs.OneByOne.{passed_in, popped_in}
@@ -187,3 +188,18 @@ passed_crossing {M} {T} b went m shows i k inner noted xs ys none opened is low 
     let B : Bool → Type 0 = λ f. ArePassed (IsIn (sender_machine b) m i) (IsOutBy (sender_machine b) m f) (Crossing k) xs ys (Crossing k') in
     let tail : k.tail ≡ Open = open_is k.tail opened in
     subst B (sym up) (subst Q (empty_is k' (w.1 ∙ none) (w.2 ∙ tail)) (subst P (empty_is k none tail) all))
+
+-- what the node inside takes in of a hub
+pub taken_direct : {M T : Type 0} (b : Machine M T) (n : M) (x : T) (n' : M) → IsItemTaken b n x n' → IsItemTaken (sender_machine b) (Direct n) x (Direct n')
+taken_direct b n x n' k =
+    let on = k.taken.on in
+    let counts = k.taken.counts in
+    record {
+      room = k.room;
+      taken = record {
+        on = record { reading = on.reading; read = on.read; reads_on = on.reads_on; value = on.value };
+        recorded = k.taken.recorded;
+        counts = record { stays_ended = counts.stays_ended; counts = counts.counts; stays_done = counts.stays_done };
+        calls = (refl, k.taken.calls.1);
+      };
+    }

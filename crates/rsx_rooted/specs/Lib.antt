@@ -15,5 +15,6 @@ pub mod Output
 pub mod Regions
 pub mod Rooted
 pub mod Splice
+pub mod Taking
 pub mod Tree
 pub mod Went

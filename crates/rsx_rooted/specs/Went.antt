@@ -1,5 +1,5 @@
 -- What nodes are after a batch.
-use Rattle.std.specs.Prelude.{◌≡◌, false}
+use Rattle.std.specs.Prelude.{◌≡◌, ℕ, false}
 use Rattle.rsx_plain.specs.declared.node.PlainNode.{PlainNode}
 use Rattle.rsx_sources.specs.declared.range.RangeNode.{RangeNode}
 use Rattle.rsx_queued.specs.declared.sender.Sender.{Sender}
@@ -34,3 +34,8 @@ sender_went went (Direct n) noted (Direct n') = went n noted n'
 sender_went went (Direct n) noted (Crossing k) = ⊥
 sender_went went (Crossing k) noted (Crossing k') = went k.node (inside noted) k'.node × (k'.queue ≡ k.queue) × (k'.tail ≡ k.tail)
 sender_went went (Crossing k) noted (Direct n') = ⊥
+
+-- a node takes in what the node inside does, but nothing at once where its edge has a queue
+abbrev pub sender_spaces : {M T : Type 0} → (M → ℕ) → Sender M T → ℕ
+sender_spaces spaces (Direct n) = spaces n
+sender_spaces spaces (Crossing k) = 0

@@ -1,6 +1,6 @@
 //! Nodes through which several items can go at once.
 
-ghost use Rattle.std.specs.Prelude.{◌≡◌, [], length, IfSome};
+ghost use Rattle.std.specs.Prelude.{◌≡◌, ℕ, [], length, IfSome};
 ghost use Rattle.rsx_rooted.specs.Made.{moves_of};
 ghost use Rattle.rsx_rooted.specs.declared.batch.Noted.{Noted as NotedSpec};
 
@@ -43,13 +43,18 @@ pub struct Noted<T> {
     pub after: After<T>,
 }
 
-/// A node through which several items can go at once.
+/// A node through which several items can go at once, and that may take in several items of a hub at once.
 pub trait Batches: Machine {
     /// The second is the first after a batch of which it noted this.
     ghost went: { Self → NotedSpec Self.Item → Self → Type 0 };
 
-    ghost use Rattle.std.specs.Prelude.{◌≡◌, ◌≤◌, false, [], length, IfSome};
+    /// For how many items of the hub that it reads it has room at once.
+    ghost spaces_of: { Self → ℕ };
+
+    ghost use Rattle.std.specs.Prelude.{◌≡◌, ◌≤◌, ℕ, false, [], length, IfSome};
     ghost use Rattle.rsx_rooted.specs.Items.{IsIn, IsOutBy, ArePassed, ArePopped, steps_for};
+    ghost use Rattle.rsx_rooted.specs.Taking.{IsItemTaken, IsTakenOff};
+    ghost use Rattle.rsx_tree.specs.Runs.{Leads};
 
     /// For how many items at most it is worth to try a batch. The answer promises nothing.
     fn most(&self) -> u64;
@@ -88,6 +93,15 @@ pub trait Batches: Machine {
     /// Goes on by a batch, as it noted.
     fn go_on(&mut self, noted: Noted<Self::Item>)
         ensures { went self.old noted self.new };
+
+    /// For how many items of the hub that it reads it has room at once. 0 where it reads none, or takes them in one by one.
+    fn spaces(&self) -> u64
+        ensures { result ≡ spaces_of self.now };
+
+    /// Takes in so many items from the end of a list, the last one first, as the next ones of the hub that it reads. It has room for
+    /// them ([`Batches::spaces`]). It takes no memory.
+    fn take_in_many(&mut self, items: &mut Vec<Self::Item>, count: u64)
+        ensures { IsTakenOff count (spaces_of self.old) items.old.items items.new.items (λ xs. Leads (IsItemTaken Self.Machine) self.old xs self.new) };
 }
 
 /// A batch of items on its way.

@@ -11,6 +11,7 @@
 //! - [`sink`]: [`Sink`], what takes the signals that go over a root edge.
 //! - [`batch`]: [`Batches`], a node through which several items can go at once, and [`Batch`], such items on their way.
 //! - [`chain`]: [`fetch_batch`], a batch through a tree.
+//! - [`taking`]: [`hand_many`], several items of a hub at once into the nodes that read it.
 //! - [`law`]: [`put_again`], [`two_regions`], [`root_regions`] and [`stands_on`], what a cut and a join come to.
 //!
 //! [`Node::swap_at`](rsx_tree::Node::swap_at) cuts a tree, and joins it again. The node over the edge, with all below it, goes on
@@ -31,11 +32,12 @@
 //! have a queue), `Cutting` (what a cut reads off a tree), `Flow`, `Local`, `Splice` and `Regions` (the words in which the laws of
 //! cut and join are stated), `Leaves` and `Inboxes` (the places that leaves take at hubs, and what waits in front of these),
 //! `Items` (the single calls and moves that do what a batch does), `Made` (what was noted of a tree, and what it is after that),
-//! `Machines` and `Went` (what nodes that make batches mean, and what they are after one).
+//! `Machines` and `Went` (what nodes that make batches mean, and what they are after one), `Taking` (several items of a hub at once).
 
 pub mod batch;
 pub mod chain;
 pub mod feeding;
+mod hub_leaf;
 pub mod joins;
 pub mod law;
 pub mod nodes;
@@ -45,6 +47,7 @@ mod range;
 pub mod rooted;
 mod sender;
 pub mod sink;
+pub mod taking;
 
 pub use batch::{After, Batch, Batches, FEWEST_IN_BATCH, MOST_IN_BATCH, Noted};
 pub use chain::{carry_all, fetch_batch, room_over};
@@ -56,3 +59,4 @@ pub use rooted::{Pumped, Rooted};
 pub use rsx_prefetch::SignalQueue;
 pub use rsx_tree::{Edge, EdgeState, NodeMove};
 pub use sink::{NoRoom, Sink};
+pub use taking::{hand_many, spaces_for};

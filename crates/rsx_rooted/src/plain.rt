@@ -17,6 +17,8 @@ use std::alloc::Global;
 impl<T: Drop> Batches for PlainNode<T> {
     ghost went = { λ old noted new. plain_went old noted.after new };
 
+    ghost spaces_of = { λ n. 0 };
+
     #[inline]
     fn most(&self) -> u64 {
         if !self.slot.is_empty() {
@@ -72,4 +74,10 @@ impl<T: Drop> Batches for PlainNode<T> {
             *self = node;
         }
     }
+
+    fn spaces(&self) -> u64 {
+        0
+    }
+
+    fn take_in_many(&mut self, items: &mut Vec<T>, count: u64) {}
 }

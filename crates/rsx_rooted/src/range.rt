@@ -12,6 +12,8 @@ use std::marker::PhantomData;
 impl<T: Drop> Batches for RangeNode<T> {
     ghost went = { λ old noted new. range_went old noted.after new };
 
+    ghost spaces_of = { λ n. 0 };
+
     #[inline]
     fn most(&self) -> u64 {
         self.count - self.at
@@ -65,4 +67,10 @@ impl<T: Drop> Batches for RangeNode<T> {
             *self = node;
         }
     }
+
+    fn spaces(&self) -> u64 {
+        0
+    }
+
+    fn take_in_many(&mut self, items: &mut Vec<T>, count: u64) {}
 }

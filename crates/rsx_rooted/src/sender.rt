@@ -3,7 +3,7 @@
 
 ghost use Rattle.std.specs.Prelude.{◌≡◌, [], true, false, IfSome};
 ghost use Rattle.rsx_queued.specs.Held.{is_open};
-ghost use Rattle.rsx_rooted.specs.Went.{inside, sender_went};
+ghost use Rattle.rsx_rooted.specs.Went.{inside, sender_spaces, sender_went};
 
 use crate::batch::{Batches, Noted};
 use rsx_queued::{Queued, Sender};
@@ -12,6 +12,8 @@ use std::alloc::Global;
 
 impl<M: Batches<Item = T>, T: Drop> Batches for Sender<M, T> {
     ghost went = { sender_went M.went };
+
+    ghost spaces_of = { sender_spaces M.spaces_of };
 
     #[inline]
     fn most(&self) -> u64 {
@@ -78,6 +80,20 @@ impl<M: Batches<Item = T>, T: Drop> Batches for Sender<M, T> {
                 };
                 crossing.node.go_on(inner);
             }
+        }
+    }
+
+    fn spaces(&self) -> u64 {
+        match self {
+            Sender::Direct(node) => node.spaces(),
+            Sender::Crossing(_) => 0,
+        }
+    }
+
+    fn take_in_many(&mut self, items: &mut Vec<T>, count: u64) {
+        match self {
+            Sender::Direct(node) => node.take_in_many(items, count),
+            Sender::Crossing(_) => {}
         }
     }
 }

@@ -1,0 +1,58 @@
+//! The node that reads a hub takes in several items of it at once. It makes no batch.
+
+ghost use Rattle.std.specs.Prelude.{◌≡◌};
+ghost use Rattle.rsx_hub.specs.Leaf.{leaf_spaces};
+
+use crate::batch::{Batches, Noted};
+use rsx_hub::HubLeaf;
+use rsx_sources::Machine;
+use rsx_types::{Ops, Signal};
+use std::alloc::Global;
+
+impl<T: Drop> Batches for HubLeaf<T> {
+    ghost went = { λ old noted new. new ≡ old };
+
+    ghost spaces_of = { leaf_spaces };
+
+    fn most(&self) -> u64 {
+        0
+    }
+
+    fn peek<O: Ops<Item = T>>(
+        &self,
+        alloc: Global,
+        ops: &O,
+        most: u64,
+        items: &mut Vec<T>,
+    ) -> Option<Noted<T>> {
+        None
+    }
+
+    fn try_pass<O: Ops<Item = T>>(
+        &self,
+        alloc: Global,
+        ops: &O,
+        input: u64,
+        items: &mut Vec<T>,
+        spare: &mut Vec<T>,
+    ) -> Option<Noted<T>> {
+        None
+    }
+
+    fn go_on(&mut self, noted: Noted<T>)
+        ensures { self.new ≡ self.old }
+    {}
+
+    fn spaces(&self) -> u64 {
+        HubLeaf::spaces(self)
+    }
+
+    fn take_in_many(&mut self, items: &mut Vec<T>, count: u64) {
+        for taken in 0..count {
+            if let Some(item) = items.pop() {
+                // It has room, so the item is not handed back.
+                let _ = self.on_published(Signal::Next(item));
+            }
+        }
+    }
+}
