@@ -6,5 +6,6 @@ pub mod Parts
 pub mod Rejoins
 pub mod Signals
 pub mod Swaps
+pub mod TakenOff
 pub mod Times
 pub mod Trees

@@ -12,4 +12,5 @@ pub mod Output
 pub mod Part
 pub mod Published
 pub mod Rejoined
+pub mod Taking
 pub mod Tree
