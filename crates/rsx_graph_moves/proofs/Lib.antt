@@ -15,5 +15,6 @@ pub mod Quiet
 pub mod Readers
 pub mod Rest
 pub mod Serving
+pub mod TakenIn
 pub mod Times
 pub mod Turns

@@ -4,6 +4,7 @@ ghost use Rattle.std.specs.Prelude.{◌≡◌, ℕ, ◌<◌, ◌≤◌, ◌^◌,
 ghost use Rattle.rsx_graph_state.specs.Moves.{rows_of};
 ghost use Rattle.rsx_graph_state.specs.Stands as spec;
 ghost use Rattle.rsx_graph_state.specs.SubscriptionSet.{IsSkipped, NoneReads};
+ghost use Rattle.rsx_tree.specs.Runs.{LeadsBy};
 ghost use Rattle.rsx_types.specs.Meaning.{Meaning};
 ghost use Rattle.rsx_graph_moves.specs.Pumped.{AreHubsQuiet, HasServed, HaveServed, IsAnyAwake, IsHubMoveRefusal, IsHubMoved, IsHubQuiet};
 ghost use Rattle.rsx_rooted.specs.declared.rooted.Pumped.TheVariants as DrivenOf;
@@ -15,11 +16,12 @@ ghost use Rattle.rsx_subscriber.specs.declared.subscription.Subscription.{Subscr
 use crate::IdleSet;
 use crate::waking::look_for_readers;
 use rsx_graph_state::{
-    Feed, Refusal, Skipped, accept_unfed, can_accept, can_feed, place_of, send_from_feed,
-    work_in_feed,
+    Feed, Refusal, Skipped, accept_all, accept_unfed, can_accept, can_feed, place_of,
+    send_from_feed, work_in_feed,
 };
 use rsx_hub::Hub;
 use rsx_pipe::{Nodes, Pumped as Driven};
+use rsx_rooted::Batches;
 use rsx_sources::NotMade;
 use rsx_subscriber::Subscription;
 use rsx_types::{HubId, Ops, Signal};
@@ -27,7 +29,7 @@ use std::alloc::Global;
 
 /// All hubs take in what they can, one after the other, in at most `budget` moves; the moves of a hub's feed are among them. The
 /// readers of each that makes a move are taken out of `idle`. The list for what is handed to them is empty before and after.
-pub(crate) fn serve_all<N: Nodes<Item = O::Item>, O: Ops>(
+pub(crate) fn serve_all<N: Nodes<Item = O::Item> + Batches, O: Ops>(
     alloc: Global,
     ops: &O,
     hubs: &mut Vec<Hub<O::Item>>,
@@ -74,7 +76,7 @@ pub(crate) fn serve_all<N: Nodes<Item = O::Item>, O: Ops>(
 /// A hub takes in what it can, in at most `budget` moves; the moves of its feed are among them. Where it makes one, those subscriptions
 /// are taken out of `idle` of which some node reads the hub, since that may wake them. Where its inbox or its feed has nothing for it, it
 /// looks at no subscription.
-fn serve<N: Nodes<Item = O::Item>, O: Ops>(
+fn serve<N: Nodes<Item = O::Item> + Batches, O: Ops>(
     alloc: Global,
     ops: &O,
     hubs: &mut Vec<Hub<O::Item>>,
@@ -155,7 +157,7 @@ fn has_moved(served: &Result<Driven, Refusal>, budget: u32) -> bool
 }
 
 /// A hub makes moves as long as one is enabled, but at most `budget`, without a look at those that are skipped: they stay as they are.
-fn take_in_all<N: Nodes<Item = O::Item>, O: Ops>(
+fn take_in_all<N: Nodes<Item = O::Item> + Batches, O: Ops>(
     alloc: Global,
     ops: &O,
     hubs: &mut Vec<Hub<O::Item>>,
@@ -180,7 +182,18 @@ fn take_in_all<N: Nodes<Item = O::Item>, O: Ops>(
     ensures idle { (set : IdleSetOf) → ((i : ℕ) → IsIn set i → IsSkipped skipped.now i) → AreIdle N.Machine (O.meaning ops.now) set subscriptions.old.items → AreIdle N.Machine (O.meaning ops.now) set subscriptions.new.items }
     ensures empty { signals.new.items ≡ [] }
 {
-    for made in 0..budget {
+    let taken = take_in_many(
+        alloc,
+        ops,
+        hubs,
+        feeds,
+        subscriptions,
+        skipped,
+        hub,
+        at,
+        budget,
+    );
+    for made in taken..budget {
         match take_in_one(
             alloc,
             ops,
@@ -201,6 +214,44 @@ fn take_in_all<N: Nodes<Item = O::Item>, O: Ops>(
         true => Ok(Driven::Budget),
         false => Ok(Driven::Idle(0)),
     }
+}
+
+/// A hub with an emitter takes in all that waits in its inbox at once, where it can, in at most `budget` moves, and without a look at those
+/// that are skipped. It answers how many moves it made.
+fn take_in_many<N: Nodes<Item = O::Item> + Batches, O: Ops>(
+    alloc: Global,
+    ops: &O,
+    hubs: &mut Vec<Hub<O::Item>>,
+    feeds: &Vec<Feed<N>>,
+    subscriptions: &mut Vec<Subscription<N, O::Item>>,
+    skipped: &Skipped,
+    hub: HubId,
+    at: Option<usize>,
+    budget: u32,
+) -> u32
+    requires there { hub.0 < length hubs.old.items }
+    requires place { spec.place_of feeds.now.items hub.0 ≡ at }
+    requires unread { NoneReads N.Machine hub.0 skipped.now subscriptions.old.items }
+    ensures hubs { length hubs.new.items ≡ length hubs.old.items }
+    ensures subscriptions { length subscriptions.new.items ≡ length subscriptions.old.items }
+    ensures made { LeadsBy (IsHubMoved N.Machine N.Nodes.own (O.meaning ops.now) hub.0) result (rows_of hubs.old.items feeds.now.items subscriptions.old.items) (rows_of hubs.new.items feeds.now.items subscriptions.new.items) }
+    ensures most { result ≤ budget }
+{
+    if let Some(_) = at {
+        return 0;
+    }
+    let mut items = Vec::new(alloc);
+    accept_all(
+        alloc,
+        ops,
+        hubs,
+        feeds,
+        subscriptions,
+        hub,
+        skipped,
+        &mut items,
+        budget,
+    )
 }
 
 /// Makes the first enabled move of a hub, without a look at those that are skipped. Of a hub with an emitter that takes the next signal of

@@ -1,6 +1,8 @@
 -- Lemmas about histories, and about the graphs that stand for them.
 -- Lemmas about graphs with feeds.
 pub mod Accepted
+pub mod Accepts
+pub mod AllAtOnce
 pub mod Calls
 pub mod Graphs
 pub mod Handing

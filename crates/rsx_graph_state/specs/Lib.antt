@@ -1,5 +1,6 @@
 -- Definitions that contracts cite.
 pub mod Answers
+pub mod AtOnce
 pub mod Begun
 pub mod Feeds
 pub mod Headline

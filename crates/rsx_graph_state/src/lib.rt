@@ -35,6 +35,7 @@
 //! of their hubs and feeds.
 //!
 //! - [`accepting`]: [`accept`], by which a hub with an emitter takes in what waits in its inbox.
+//! - [`at_once`]: [`accept_all`], by which it takes in all that waits there at once.
 //! - [`feed_moves`]: [`make_in_feed`], a move of a hub's feed.
 //! - [`feeds`]: [`place_of`], the feed of a hub among all.
 //! - [`law`]: [`headline`], what is proved of such graphs, as the contract of one function.
@@ -44,6 +45,7 @@
 //! changes) and `Headline`.
 
 pub mod accepting;
+pub mod at_once;
 pub mod feed;
 pub mod feed_moves;
 pub mod feeds;
@@ -56,6 +58,7 @@ pub mod step;
 pub mod subscription_set;
 
 pub use accepting::{accept, accept_unfed};
+pub use at_once::accept_all;
 pub use feed::{Feed, HUB_REGION};
 pub use feed_moves::{make_in_feed, send_from_feed, work_in_feed};
 pub use feeds::place_of;

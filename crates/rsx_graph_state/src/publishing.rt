@@ -129,7 +129,7 @@ fn all_with_room<N: Nodes<Item = T>, T: Drop>(
 }
 
 /// The same of the nodes of these subscriptions alone.
-fn with_room<N: Nodes<Item = T>, T: Drop>(
+pub(crate) fn with_room<N: Nodes<Item = T>, T: Drop>(
     number: u64,
     subscriptions: &[Subscription<N, T>],
     skipped: &Skipped,

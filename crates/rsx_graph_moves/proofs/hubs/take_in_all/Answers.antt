@@ -2,23 +2,29 @@ use Rattle.std.proofs.Common.{◌∙◌, ◌++◌, [], ◌∷◌, Option, ap, ar
 use Rattle.std.specs.Option.{option_to_list}
 use Rattle.rsx_sources.specs.Prelude.{SubId, Signal}
 use Rattle.rsx_graph_state.specs.Moves.{rows_of}
-use Rattle.rsx_graph_moves.proofs.Driving.{could_first, made_still, rows_same, so_far_none, so_far_taken, untouched}
+use Rattle.rsx_graph_moves.proofs.Driving.{could_first, made_still, rows_same, so_far_taken, untouched}
 use Rattle.rsx_graph_moves.proofs.Keeping.{lead_keep, place_kept}
 use Rattle.rsx_graph_moves.proofs.Readers.{moved_idle, moved_unread, quiet_still, same_idle}
+use Rattle.rsx_graph_moves.proofs.TakenIn.{many_taken_in}
 use Rattle.rsx_graph_moves.proofs.hubs.take_in_all.Goals as goal
 
 pub loop-made-init : goal.loop-made-init
-loop-made-init g c = record {
-  hubs = refl;
-  feeds = refl;
-  subscriptions = refl;
-  so_far = so_far_none g.N.Machine g.N.Nodes (g.O.Ops.meaning c.args.ops.now) (rows_of c.args.hubs.now.items c.args.feeds.now.items c.args.subscriptions.now.items) [];
-  first = λ l _. absurd (omega (arith, l));
-  place = c.requires.place;
-  unread = c.requires.unread;
-  stay = λ set among quiet. quiet;
-  empty = c.requires.empty;
-}
+loop-made-init g c =
+    let m = g.O.Ops.meaning c.args.ops.now in
+    let first = rows_of c.args.hubs.now.items c.args.feeds.now.items c.args.subscriptions.now.items in
+    let now = rows_of c.take_in_many-taken.new.hubs.items c.args.feeds.now.items c.take_in_many-taken.new.subscriptions.items in
+    let k = many_taken_in g.N.Machine g.N.Nodes m c.args.hub.0 c.args.skipped.now first now c.take_in_many-taken.result c.requires.unread c.take_in_many-taken.ensures.made in
+    record {
+      hubs = c.take_in_many-taken.ensures.hubs;
+      feeds = refl;
+      subscriptions = c.take_in_many-taken.ensures.subscriptions;
+      so_far = k.so_far;
+      first = k.could;
+      place = k.place ∙ c.requires.place;
+      unread = k.unread;
+      stay = k.stay;
+      empty = c.requires.empty;
+    }
 
 pub loop-made-preserved : goal.loop-made-preserved
 loop-made-preserved g c =
@@ -72,7 +78,7 @@ returns-in-true-clause-served g c =
     let s = c.loop-made.invariant.so_far in
     let n = s.count in
     let l = c.loop-made-test.false in
-    let e = c.loop-made.auto.made-end in
+    let e = c.loop-made.auto.made-end c.take_in_many-taken.ensures.most in
     (s.moves, (omega (arith, n, l, e), c.is_awake.ensures.yes (g.O.Ops.meaning c.args.ops.now) c.in-true.is), s.made, sym s.output)
 
 pub returns-in-false-clause-served : goal.returns-in-false-clause-served
@@ -80,7 +86,7 @@ returns-in-false-clause-served g c =
     let s = c.loop-made.invariant.so_far in
     let n = s.count in
     let l = c.loop-made-test.false in
-    let e = c.loop-made.auto.made-end in
+    let e = c.loop-made.auto.made-end c.take_in_many-taken.ensures.most in
     (s.moves, (omega (arith, n, l, e), c.is_awake.ensures.no (g.O.Ops.meaning c.args.ops.now) c.in-false.is), s.made, sym s.output)
 
 pub returns-in-Err-NotEnabled-clause-none : goal.returns-in-Err-NotEnabled-clause-none

@@ -1,0 +1,186 @@
+//! Taking all that waits in the inbox of a hub in at once, and handing it to all nodes that read the hub.
+
+ghost use Rattle.std.specs.Prelude.{◌≡◌, ◌<◌, ◌≤◌, [], Some, None, IfSome, List, OnOk, OnErr, length, reverse};
+ghost use Rattle.rsx_hub.specs.Hub.{all_accepted, replayed};
+ghost use Rattle.rsx_rooted.specs.Taking.{blocks};
+ghost use Rattle.rsx_tree.specs.Runs.{Leads, LeadsBy};
+ghost use Rattle.rsx_graph_state.specs.AtOnce as spec;
+ghost use Rattle.rsx_graph_state.specs.AtOnce.{AreAccepted, IsAccept, IsItemHandedToAll};
+ghost use Rattle.rsx_graph_state.specs.Moves.{rows_of};
+ghost use Rattle.rsx_graph_state.specs.Publishing as counts;
+ghost use Rattle.rsx_graph_state.specs.Stands as stands;
+ghost use Rattle.rsx_graph_state.specs.SubscriptionSet.{NoneReads};
+
+use crate::publishing::with_room;
+use crate::{Feed, Skipped};
+use rsx_hub::Hub;
+use rsx_pipe::Nodes;
+use rsx_rooted::Batches;
+use rsx_subscriber::Subscription;
+use rsx_types::{HubId, NoMemory, Ops};
+use std::alloc::Global;
+
+/// The fewest items that are taken in at once.
+const FEWEST_AT_ONCE: u64 = 2;
+
+/// A hub that is there and has no feed takes in all items that wait in its inbox, and each node of a subscription that reads the hub
+/// gets them. That is what so many calls of [`accept_unfed`](crate::accept_unfed) do. It answers how many items those are: none,
+/// where it doesn't do so at once. It does not where there are more than `most`, where a node has no room for all of them, where
+/// the hub keeps items for new members, where some hub has a feed, and where memory was wanting.
+///
+/// It looks at no subscription that is skipped. The list is empty before and after; used again, it takes no memory.
+pub fn accept_all<N: Nodes<Item = O::Item> + Batches, O: Ops>(
+    alloc: Global,
+    ops: &O,
+    hubs: &mut Vec<Hub<O::Item>>,
+    feeds: &Vec<Feed<N>>,
+    subscriptions: &mut Vec<Subscription<N, O::Item>>,
+    hub: HubId,
+    skipped: &Skipped,
+    items: &mut Vec<O::Item>,
+    most: u32,
+) -> u32
+    requires there { hub.0 < length hubs.old.items }
+    requires unfed { stands.feed_of feeds.now.items hub.0 ≡ None }
+    requires unread { NoneReads N.Machine hub.0 skipped.now subscriptions.old.items }
+    requires empty { items.old.items ≡ [] }
+    ensures hubs { length hubs.new.items ≡ length hubs.old.items }
+    ensures subscriptions { length subscriptions.new.items ≡ length subscriptions.old.items }
+    ensures made { LeadsBy (IsAccept N.Machine hub.0) result (rows_of hubs.old.items feeds.now.items subscriptions.old.items) (rows_of hubs.new.items feeds.now.items subscriptions.new.items) }
+    ensures most { result ≤ most }
+    ensures empty { items.new.items ≡ [] }
+{
+    if feeds.len() > 0 {
+        return 0;
+    }
+    take_in_all(
+        alloc,
+        ops,
+        &mut hubs[hub.0 as usize],
+        hub.0,
+        subscriptions,
+        skipped,
+        items,
+        most,
+    )
+}
+
+/// The same of this hub.
+fn take_in_all<N: Nodes<Item = O::Item> + Batches, O: Ops>(
+    alloc: Global,
+    ops: &O,
+    hub: &mut Hub<O::Item>,
+    number: u32,
+    subscriptions: &mut [Subscription<N, O::Item>],
+    skipped: &Skipped,
+    items: &mut Vec<O::Item>,
+    most: u32,
+) -> u32
+    requires unread { NoneReads N.Machine number skipped.now subscriptions.old }
+    requires empty { items.old.items ≡ [] }
+    ensures made { AreAccepted N.Machine number result hub.old hub.new subscriptions.old subscriptions.new }
+    ensures most { result ≤ most }
+    ensures empty { items.new.items ≡ [] }
+{
+    let count = hub.len();
+    if count < FEWEST_AT_ONCE || count > u64::from(most) || !hub.keeps_none() {
+        return 0;
+    }
+    let number = u64::from(number);
+    let Some(readers) = ready_readers(number, subscriptions, skipped, count) else {
+        return 0;
+    };
+    if lay_out(alloc, ops, hub, readers, items).is_err() {
+        items.clear();
+        return 0;
+    }
+    hand_all(number, subscriptions, skipped, items, count);
+    count as u32
+}
+
+/// How many nodes of these subscriptions read the hub, where there are some, and each of them has room for so many items at once.
+fn ready_readers<N: Nodes<Item = T> + Batches, T: Drop>(
+    number: u64,
+    subscriptions: &[Subscription<N, T>],
+    skipped: &Skipped,
+    count: u64,
+) -> Option<u32>
+    requires unread { NoneReads N.Machine number skipped.now subscriptions.now }
+    ensures some { IfSome result (λ n. (n ≡ counts.readers N.Machine number subscriptions.now) × (0 < n)) }
+    ensures room { IfSome result (λ n. count ≤ spec.spaces_of_all N.Machine N.spaces_of number count subscriptions.now) }
+{
+    let Some(readers) = with_room(number, subscriptions, skipped, u32::MAX) else {
+        return None;
+    };
+    if readers == 0 || readers == u32::MAX {
+        return None;
+    }
+    if spaces_of_all(number, subscriptions, skipped, count) < count {
+        return None;
+    }
+    Some(readers)
+}
+
+/// The least of the numbers of items for which the nodes of these subscriptions that read the hub have room at once, but at most
+/// `most`.
+fn spaces_of_all<N: Nodes<Item = T> + Batches, T: Drop>(
+    number: u64,
+    subscriptions: &[Subscription<N, T>],
+    skipped: &Skipped,
+    most: u64,
+) -> u64
+    requires unread { NoneReads N.Machine number skipped.now subscriptions.now }
+    ensures { result ≡ spec.spaces_of_all N.Machine N.spaces_of number most subscriptions.now }
+{
+    let mut left = most;
+    let mut at = skipped.next(0);
+    'walk: while at < subscriptions.len() {
+        let looked_at = &subscriptions[at];
+        left = looked_at.spaces_for(number, left);
+        at = skipped.next(at + 1);
+    }
+    left
+}
+
+/// Takes in all items of the inbox of a hub that keeps none, and puts them into the empty list once for each of so many nodes, the last
+/// one first. All copies are made before they are taken in. After an error something may stand in the list.
+fn lay_out<O: Ops>(
+    alloc: Global,
+    ops: &O,
+    hub: &mut Hub<O::Item>,
+    readers: u32,
+    items: &mut Vec<O::Item>,
+) -> Result<(), NoMemory>
+    requires multicast { replayed hub.old.kind ≡ 0 }
+    requires some { 0 < readers }
+    requires empty { items.old.items ≡ [] }
+    ensures items { OnOk result (items.new.items ≡ blocks readers (reverse hub.old.inbox)) }
+    ensures taken { OnOk result (hub.new ≡ all_accepted hub.old) }
+    ensures same { OnErr result (hub.new ≡ hub.old) }
+{
+    for made in 0..readers - 1 {
+        hub.copy_inbox(alloc, ops, items)?;
+    }
+    hub.accept_all(items)
+}
+
+/// Hands so many items of the hub to each node of these subscriptions that reads it. They are all that stands in the list, the first of
+/// them last, once for each of these nodes. Each of the nodes has room for them.
+fn hand_all<N: Nodes<Item = T> + Batches, T: Drop>(
+    number: u64,
+    subscriptions: &mut [Subscription<N, T>],
+    skipped: &Skipped,
+    items: &mut Vec<T>,
+    count: u64,
+)
+    requires unread { NoneReads N.Machine number skipped.now subscriptions.old }
+    ensures { (xs : List T) → items.old.items ≡ blocks (counts.readers N.Machine number subscriptions.old) (reverse xs) → length xs ≡ count → count ≤ spec.spaces_of_all N.Machine N.spaces_of number count subscriptions.old →
+        Leads (IsItemHandedToAll N.Machine number) subscriptions.old xs subscriptions.new × (items.new.items ≡ []) }
+{
+    let mut to = skipped.next(0);
+    'walk: while to < subscriptions.len() {
+        let subscription = &mut subscriptions[to];
+        subscription.hand_many(number, items, count);
+        to = skipped.next(to + 1);
+    }
+}
