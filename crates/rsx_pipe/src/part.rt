@@ -2,7 +2,7 @@
 
 use crate::ahead::{make_ahead, waiting};
 pub use rsx_rooted::Pumped;
-use rsx_rooted::{Batch, Batches, Nodes, Rooted, Sink};
+use rsx_rooted::{Batch, Batches, Nodes, Noted, Rooted, Sink};
 use rsx_sources::NotMade;
 use rsx_tree::{Edge, EdgeState, Inputs, Node, NodeMove};
 use rsx_types::{NoMemory, Note, Ops, StreamValue};
@@ -235,15 +235,18 @@ impl<N: Nodes> Part<N> {
 }
 
 impl<N: Nodes + Batches> Part<N> {
-    ghost use Rattle.std.specs.Prelude.{◌≡◌, ◌<◌, ◌≤◌, [], None, length, true, false};
-    ghost use Rattle.rsx_pipe.specs.Fetched.{AreFetched, IsFetched};
+    ghost use Rattle.std.specs.Prelude.{◌≡◌, ◌<◌, ◌≤◌, [], None, length, true, false, IfSome};
+    ghost use Rattle.rsx_rooted.specs.Made.{FitsOver, HasGoneOnBy};
+    ghost use Rattle.rsx_pipe.specs.Fetched.{AreFed, AreFetched, IsFetched};
+    ghost use Rattle.rsx_pipe.specs.Part.{Part as PartView};
 
     /// Pulls at most `most` items through the part and over its root edge, many at once: what that many calls of [`Part::fetch`] would
     /// do it does for all of them. They are in `batch`: the caller puts them into the queue behind the root edge, which has to have
     /// room, or takes them from there at once. Each move takes one of the budget that is `left`, and at least as much of it remains as
     /// there are items.
     ///
-    /// It answers no where the way to the items isn't straight, as [`rsx_rooted::fetch_batch`] says. Then nothing has changed.
+    /// It answers no where the way to the items isn't straight, as [`rsx_rooted::try_batch`] says, and where the budget is short of all
+    /// this. Then nothing has changed.
     pub fn fetch_batch<O: Ops<Item = N::Item>>(
         &mut self,
         alloc: Global,
@@ -260,6 +263,42 @@ impl<N: Nodes + Batches> Part<N> {
         ensures no { result ≡ false → (self.new ≡ self.old) × (left.new ≡ left.old) }
     {
         self.rooted.fetch_batch(alloc, ops, most, left, batch)
+    }
+
+    /// The first half of [`Part::fetch_batch`]: makes the batch of items, and leaves the part as it is. Answers how much of the budget
+    /// `left` is left once it has gone on by the batch ([`Part::go_on_batch`]). None where there is no such batch. What is in `batch`
+    /// then stands for nothing.
+    pub fn try_batch<O: Ops<Item = N::Item>>(
+        &self,
+        alloc: Global,
+        ops: &O,
+        most: u64,
+        left: u32,
+        batch: &mut Batch<N::Item>,
+    ) -> Option<u32>
+        requires items { batch.old.items.items ≡ [] }
+        requires notes { batch.old.notes.items ≡ [] }
+        ensures fits { IfSome result (λ rest. FitsOver batch.new.notes.items (length batch.new.items.items) self.now) }
+        ensures fetched { IfSome result (λ rest. (new : PartView N) → HasGoneOnBy N.went batch.new.notes.items (length batch.new.items.items) self.now new →
+            AreFetched N.Machine (O.meaning ops.now) left self.now batch.new.items.items rest new) }
+
+        // Each move, one by one, for a caller that counts them as moves of its own.
+        ensures fed { IfSome result (λ rest. (new : PartView N) → HasGoneOnBy N.went batch.new.notes.items (length batch.new.items.items) self.now new →
+            AreFed N.Machine (O.meaning ops.now) left self.now batch.new.items.items rest new) }
+        ensures most { IfSome result (λ rest. length batch.new.items.items ≤ most) }
+        ensures behind { IfSome result (λ rest. length batch.new.items.items ≤ rest) }
+    {
+        self.rooted.try_batch(alloc, ops, most, left, batch)
+    }
+
+    /// The second half: has the part go on by a batch of so many items, of which this was noted, and counts them over the root edge. It
+    /// takes no memory.
+    pub fn go_on_batch(&mut self, count: u64, notes: &mut Vec<Noted<N::Item>>)
+        requires { FitsOver notes.old.items count self.old }
+        ensures went { HasGoneOnBy N.went notes.old.items count self.old self.new }
+        ensures all { notes.new.items ≡ [] }
+    {
+        self.rooted.go_on_batch(count, notes);
     }
 
     /// Makes a move on the way down to the items, so that many of them may be pulled at once, as [`make_ahead`] does: the Send of a

@@ -8,7 +8,7 @@ use Rattle.rsx_tree.specs.Prelude.{edge_view, can_pass, passed, IsLed}
 use Rattle.rsx_tree.specs.declared.look.NodeMove.TheVariants.{Pick, Row}
 use Rattle.rsx_tree.specs.declared.node.Node.{Node}
 use Rattle.rsx_sources.specs.declared.machine.Machine.{Ghosts as Machine}
-use Rattle.rsx_rooted.specs.Fetched.{IsFetched, IsWorked}
+use Rattle.rsx_rooted.specs.Fetched.{IsFetched, IsMovedInside, IsWorked}
 use Rattle.rsx_rooted.specs.Rooted.{no_room}
 use Rattle.rsx_rooted.specs.Tree.{IsLetGo}
 use Rattle.rsx_rooted.specs.declared.rooted.Rooted.{Rooted}
@@ -68,19 +68,27 @@ same_answer {M} {T} b m budget left old new o p is h = let Q : Option T → Type
 
 -- ---- a step of the root, and its item over the root edge at once
 
-stepped : {M T : Type 0} (b : Machine M T) (m : Meaning T) (old : Rooted M) (tree : Node M) → IsRootStep b m old.tree (edge_view old.root) tree → ((input : ℕ) × IsRootPick b m old.tree (edge_view old.root) input tree) ⊎ IsRootRow b m old.tree (edge_view old.root) tree → IsWorked b m 1 old (record { tree = tree; root = old.root })
-stepped {M} b m old tree h (inl p) =
+pub root_moved : {M T : Type 0} (b : Machine M T) (m : Meaning T) (old : Rooted M) (tree : Node M) → IsRootStep b m old.tree (edge_view old.root) tree → ((input : ℕ) × IsRootPick b m old.tree (edge_view old.root) input tree) ⊎ IsRootRow b m old.tree (edge_view old.root) tree → IsMovedInside b m old (record { tree = tree; root = old.root })
+root_moved {M} b m old tree h (inl p) =
     let new : Rooted M = record { tree = tree; root = old.root } in
-    let move = Pick 0 p.0 in
-    let made = made_inside b m move old new (refl, record { tree = p.1.effect; root = refl }) h.chosen h.balance (λ closed dead. pick_alive b old.tree (edge_view old.root) 0 p.0 p.1.enabled closed dead) refl h.alike in
-    pumped_made b no_room m move old new tt tt p.1.enabled (made_into b no_room m move move old new tt refl made)
-stepped {M} b m old tree h (inr r) =
+    record {
+      move = Pick 0 p.0;
+      enabled = p.1.enabled;
+      made = made_inside b m (Pick 0 p.0) old new (refl, record { tree = p.1.effect; root = refl }) h.chosen h.balance (λ closed dead. pick_alive b old.tree (edge_view old.root) 0 p.0 p.1.enabled closed dead) refl h.alike;
+    }
+root_moved {M} b m old tree h (inr r) =
     let new : Rooted M = record { tree = tree; root = old.root } in
-    let move = Row 0 in
-    let made = made_inside b m move old new (refl, record { tree = r.effect; root = refl }) h.chosen h.balance (λ closed dead. row_alive b old.tree (edge_view old.root) 0 r.enabled closed dead) refl h.alike in
-    pumped_made b no_room m move old new tt tt r.enabled (made_into b no_room m move move old new tt refl made)
+    record {
+      move = Row 0;
+      enabled = r.enabled;
+      made = made_inside b m (Row 0) old new (refl, record { tree = r.effect; root = refl }) h.chosen h.balance (λ closed dead. row_alive b old.tree (edge_view old.root) 0 r.enabled closed dead) refl h.alike;
+    }
+
+-- one move inside the tree is a run of one
+pub worked_once : {M T : Type 0} (b : Machine M T) (m : Meaning T) (old new : Rooted M) → IsMovedInside b m old new → IsWorked b m 1 old new
+worked_once b m old new w = pumped_made b no_room m w.move old new tt tt w.enabled (made_into b no_room m w.move w.move old new tt refl w.made)
 
 pub fetched_by_root : {M T : Type 0} (b : Machine M T) (m : Meaning T) (budget left : ℕ) (old new : Rooted M) (x : T) → IsRootStepOut b m old.tree (edge_view old.root) (Some x) new.tree → left + 2 ≡ budget → can_pass (edge_view old.root) Item ≡ true → edge_view new.root ≡ passed (edge_view old.root) Item → IsFetched b m budget old (Some x) left new
 fetched_by_root {M} b m budget left old new x h two can carried =
     let half : Rooted M = record { tree = h.0; root = old.root } in
-    (1, half, omega (arith, two), stepped b m old h.0 h.1 h.1.step, sent_out b m half new (Next x) h.2 can carried)
+    (1, half, omega (arith, two), worked_once b m old half (root_moved b m old h.0 h.1 h.1.step), sent_out b m half new (Next x) h.2 can carried)

@@ -8,7 +8,7 @@ use Rattle.rsx_model.specs.declared.expr.Expr.{Expr}
 use Rattle.rsx_tree.specs.Prelude.{IsTreeReadAt, changed_at, asked_up_to, edge_view, EdgeView, can_pass, passed, closed_view, closed_state, IsSteppedAt, IsPickedHere, IsRowMadeHere, over, station_of, node_allocates, IsStepEnabled, wanted_at, edges as edges_in}
 use Rattle.rsx_rooted.specs.Output.{counts_in, items_in, IsUnended, values_then}
 use Rattle.rsx_rooted.specs.Feeding.{IsSentOut}
-use Rattle.rsx_rooted.specs.Fetched.{IsWorked}
+use Rattle.rsx_rooted.specs.Fetched.{IsMovedInside, IsWorked}
 use Rattle.rsx_rooted.specs.Rooted.{Stands, IsPutOut, IsMade, IsMadeInto, IsMoved, IsMovedBy, IsMovedOver, IsPumped, IsQuiet, IsSpent, HasEnded, IsAsk, IsSend, IsEffect, IsTreeSent, GoesOut, sent_at, send_enabled, move_enabled, make_allocates, evaluated, pump_allocates, no_room}
 use Rattle.rsx_rooted.specs.Tree.{comes_out, notes, offers, edges, edges_after, can_ask, can_send, can_go, want_at, want_in, front_at, front_in, ended_at, IsAllClosed, IsKept, IsLetGo, IsAlike, step_allocates, IsAdvanced, IsAskedAt, IsSentAt, IsChosen, IsDriven, IsIdle, IsBalanced, IsBalancedAfter, pop_allocates, IsStill}
 use Rattle.rsx_tree.specs.declared.look.NodeMove.{NodeMove}
@@ -26,8 +26,8 @@ use Rattle.rsx_sources.specs.declared.machine.NotMade.{NotMade}
 use Rattle.rsx_sources.specs.declared.machine.NotMade.TheVariants.{NotEnabled}
 use Rattle.rsx_tree.proofs.Alike.{or_right, alike_still, alike_then, driven_alike, or_left}
 use Rattle.rsx_tree.proofs.Drives.{chosen_run}
-use Rattle.rsx_tree.proofs.Runs.{gives_none, gives_on, gives_one, leads_silent}
-use Rattle.rsx_tree.specs.Runs.{Unlabelled}
+use Rattle.rsx_tree.proofs.Runs.{gives_none, gives_on, gives_one, leads_by_lift, leads_silent}
+use Rattle.rsx_tree.specs.Runs.{LeadsBy, Unlabelled}
 use Rattle.rsx_tree.proofs.Noted.{chosen_then, picked_effect, picked_enabled, row_effect, row_enabled as row_made_enabled}
 use Rattle.rsx_tree.proofs.Changes.{chosen_second}
 use Rattle.rsx_rooted.proofs.Numbers.{above_zero, suc_minus}
@@ -351,7 +351,22 @@ moved_alive b m old room move can closed shut = by_move move can
     by_move (Pick n input) e = pick_alive b old.tree (edge_view old.root) n input e closed shut
     by_move (Row n) e = row_alive b old.tree (edge_view old.root) n e closed shut
 
+-- a move below the root, one by one
+moved_inside : {M T : Type 0} (b : Machine M T) (m : Meaning T) (old : Rooted M) (tree : Node M) → IsAdvanced b m old.tree old.root.demand.asked old.root.demand.sent tree → IsMovedInside b m old (record { tree = tree; root = old.root })
+moved_inside b m old tree a =
+    let w = moved_below b no_room m old tree tt a in
+    record {
+      move = w.move;
+      enabled = w.enabled;
+      made = made_inside b m w.move old (record { tree = tree; root = old.root }) w.effect a.chosen a.balance (λ closed _. advanced_not_closed b m old.tree tree old.root.demand.asked old.root.demand.sent a closed) refl a.alike;
+    }
+
 -- ---- many moves of the tree
+
+pub driven_inside : {M T : Type 0} (b : Machine M T) (m : Meaning T) (n : ℕ) (root : Edge) (old new : Node M) → IsDriven b m n old root.demand.asked root.demand.sent new → LeadsBy (IsMovedInside b m) n (record { tree = old; root = root }) (record { tree = new; root = root })
+driven_inside {M} b m n root old new d =
+    let part : Node M → Rooted M = λ t. record { tree = t; root = root } in
+    leads_by_lift (λ (x y : Node M). IsAdvanced b m x root.demand.asked root.demand.sent y) (IsMovedInside b m) part (λ x y a. moved_inside b m (part x) y a) n old new d
 
 driven_moves : {M S T : Type 0} (b : Machine M T) (k : Sink S T) (m : Meaning T) (n : ℕ) (root : Edge) (old new : Node M) (sink : S) → IsDriven b m n old root.demand.asked root.demand.sent new → IsMovedBy b k m n (record { tree = old; root = root }) sink [] (record { tree = new; root = root }) sink
 driven_moves {M = M} {S = S} b k m n root old new sink d =

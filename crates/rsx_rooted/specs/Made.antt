@@ -7,6 +7,7 @@ use Rattle.rsx_tree.specs.declared.edge.Edge.{Edge}
 use Rattle.rsx_tree.specs.declared.inputs.Inputs.{Inputs, End, More'}
 use Rattle.rsx_rooted.specs.Items.{IsRowBatch, carried, room}
 use Rattle.rsx_rooted.specs.declared.batch.Noted.{Noted}
+use Rattle.rsx_rooted.specs.declared.rooted.Rooted.{Rooted}
 
 -- how many items go over the edges, and how many steps the nodes make for them, in all
 abbrev pub moves_of : {T : Type 0} → List (Noted T) → ℕ
@@ -44,3 +45,14 @@ pub record IsTried {M T : Type 0} (b : Machine M T) (went : M → Noted T → M 
   -- whether the node puts out each item by a step
   pub by_step : Bool
   pub made : (asked sent : ℕ) (n' : M) (row' : Inputs M) → HasGoneOn went notes n row n' row' → IsRowBatch b m by_step (moves_of notes) i asked sent n row items n' row'
+
+-- ---- a tree with the edge from its root
+
+-- what was noted fits the tree, and its root edge has room for so many items
+abbrev pub FitsOver : {M T : Type 0} → List (Noted T) → ℕ → Rooted M → Type 0
+FitsOver notes count part = Fits notes part.tree.inputs × (count ≤ room (edge_view part.root))
+
+-- the tree went on as it was noted, and its root edge counted so many items
+pub record HasGoneOnBy {M T : Type 0} (went : M → Noted T → M → Type 0) (notes : List (Noted T)) (count : ℕ) (old new : Rooted M) : Type 0 where
+  pub tree : HasGoneOn went notes old.tree.machine old.tree.inputs new.tree.machine new.tree.inputs
+  pub root : edge_view new.root ≡ carried (edge_view old.root) count

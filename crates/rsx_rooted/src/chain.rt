@@ -2,11 +2,11 @@
 
 ghost use Rattle.std.specs.Prelude.{◌≡◌, ◌+◌, ◌≤◌, ℕ, Bool, [], length, true, false, IfSome};
 ghost use Rattle.rsx_tree.specs.Edges.{edge_view};
-ghost use Rattle.rsx_rooted.specs.Items.{IsRowBatch, carried, room};
+ghost use Rattle.rsx_rooted.specs.Items.{carried, room};
 ghost use Rattle.rsx_rooted.specs.Made.{Fits, FitsBelow, HasGoneOn, HaveGoneOn, IsTried, moves_of};
 
 use crate::batch::{Batch, Batches, FEWEST_IN_BATCH, Noted};
-use rsx_tree::{Edge, Inputs, Node};
+use rsx_tree::{Edge, Inputs};
 use rsx_types::Ops;
 use std::alloc::Global;
 
@@ -31,10 +31,11 @@ pub fn carry_all(edge: &mut Edge, count: u64)
     }
 }
 
-/// Makes a batch of at most so many items of a node with these inputs, and leaves these as they are. It answers no where the way to
-/// the items isn't straight, and where a node declines one of them.
+/// Makes a batch of at most `most` items of a node with these inputs, over the first live edges on the way down, and leaves these as
+/// they are: what calls of [`Node::fetch`](rsx_tree::Node::fetch) would do one after the other, for all of them. It answers no where
+/// the way to the items isn't straight, and where a node declines one of them, as for a fault, an ending or want of memory.
 #[cycle(try_batch)]
-fn try_batch<M: Batches, O: Ops<Item = M::Item>>(
+pub fn try_batch<M: Batches, O: Ops<Item = M::Item>>(
     alloc: Global,
     ops: &O,
     node: &M,
@@ -97,11 +98,12 @@ fn try_over<M: Batches, O: Ops<Item = M::Item>>(
     }
 }
 
-/// Has a node with these inputs go on by a batch of which this was noted.
+/// Has a node with these inputs go on by a batch of which this was noted, each edge with all items at once.
 #[cycle(go_on)]
-fn go_on<M: Batches>(node: &mut M, inputs: &mut Inputs<M>, notes: &mut Vec<Noted<M::Item>>)
+pub fn go_on<M: Batches>(node: &mut M, inputs: &mut Inputs<M>, notes: &mut Vec<Noted<M::Item>>)
     requires { Fits notes.old.items inputs.old }
-    ensures { HasGoneOn M.went notes.old.items node.old inputs.old node.new inputs.new }
+    ensures went { HasGoneOn M.went notes.old.items node.old inputs.old node.new inputs.new }
+    ensures all { notes.new.items ≡ [] }
 {
     if let Some(noted) = notes.pop() {
         let took = noted.took;
@@ -114,7 +116,8 @@ fn go_on<M: Batches>(node: &mut M, inputs: &mut Inputs<M>, notes: &mut Vec<Noted
 #[cycle(go_on)]
 fn go_on_below<M: Batches>(row: &mut Inputs<M>, took: u64, notes: &mut Vec<Noted<M::Item>>)
     requires { FitsBelow notes.old.items took row.old }
-    ensures { HaveGoneOn M.went notes.old.items took row.old row.new }
+    ensures went { HaveGoneOn M.went notes.old.items took row.old row.new }
+    ensures all { notes.new.items ≡ [] }
 {
     match row {
         Inputs::End => {}
@@ -129,41 +132,9 @@ fn go_on_below<M: Batches>(row: &mut Inputs<M>, took: u64, notes: &mut Vec<Noted
     }
 }
 
-/// Pulls at most `most` items at once out of the root of a tree, over the first live edges on the way down. What calls of
-/// [`Node::fetch`] would do one after the other it does for all of them, each edge with all items at once. Each move takes one of
-/// the budget that is `left`, and for each item two more are left: it may go over the root's own edge, and be taken from there.
-///
-/// It answers no where the way to the items isn't straight, where a node declines one of them, as for a fault, an ending or want of
-/// memory, and where the budget is short of all this. Then the tree is as it was.
-pub fn fetch_batch<M: Batches, O: Ops<Item = M::Item>>(
-    alloc: Global,
-    ops: &O,
-    tree: &mut Node<M>,
-    most: u64,
-    left: &mut u32,
-    batch: &mut Batch<M::Item>,
-) -> bool
-    requires items { batch.old.items.items ≡ [] }
-    requires notes { batch.old.notes.items ≡ [] }
-    ensures yes { result ≡ true → (asked sent : ℕ) → (by : Bool) × (count : ℕ) × (count + left.new ≡ left.old) ×
-        IsRowBatch M.Machine (O.meaning ops.now) by count 0 asked sent tree.old.machine tree.old.inputs batch.new.items.items tree.new.machine tree.new.inputs }
-    ensures most { result ≡ true → length batch.new.items.items ≤ most }
-    ensures two { result ≡ true → length batch.new.items.items + length batch.new.items.items ≤ left.new }
-    ensures no { result ≡ false → (tree.new ≡ tree.old) × (left.new ≡ left.old) }
-{
-    if !try_batch(alloc, ops, &tree.machine, &tree.inputs, most, batch) {
-        return false;
-    }
-    let Some(rest) = rest_after(*left, batch) else {
-        return false;
-    };
-    go_on(&mut tree.machine, &mut tree.inputs, &mut batch.notes);
-    *left = rest;
-    true
-}
-
-/// How much of a budget is left after a batch. None where for each of its items fewer than two moves more are left.
-fn rest_after<T: Drop>(left: u32, batch: &Batch<T>) -> Option<u32>
+/// How much of a budget is left after a batch, where each move takes one of it. None where for each of its items fewer than two moves
+/// more are left: it may go over the root's own edge, and be taken from there.
+pub fn rest_after<T: Drop>(left: u32, batch: &Batch<T>) -> Option<u32>
     ensures spent { IfSome result (λ rest. rest + moves_of batch.now.notes.items ≡ left) }
     ensures two { IfSome result (λ rest. length batch.now.items.items + length batch.now.items.items ≤ rest) }
 {

@@ -10,7 +10,7 @@
 //! - [`feeding`]: signals go over the root edge into the hands of the caller.
 //! - [`sink`]: [`Sink`], what takes the signals that go over a root edge.
 //! - [`batch`]: [`Batches`], a node through which several items can go at once, and [`Batch`], such items on their way.
-//! - [`chain`]: [`fetch_batch`], a batch through a tree.
+//! - [`chain`]: [`try_batch`] and [`go_on`], a batch through a tree.
 //! - [`taking`]: [`hand_many`], several items of a hub at once into the nodes that read it.
 //! - [`law`]: [`put_again`], [`two_regions`], [`root_regions`] and [`stands_on`], what a cut and a join come to.
 //!
@@ -50,7 +50,7 @@ pub mod sink;
 pub mod taking;
 
 pub use batch::{After, Batch, Batches, FEWEST_IN_BATCH, MOST_IN_BATCH, Noted};
-pub use chain::{carry_all, fetch_batch, room_over};
+pub use chain::{carry_all, go_on, rest_after, room_over, try_batch};
 pub use joins::joins_of;
 pub use law::{put_again, root_regions, stands_on, two_regions};
 pub use nodes::{CrossingNodes, Nodes, Route};

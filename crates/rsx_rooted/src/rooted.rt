@@ -3,7 +3,7 @@
 ghost use Rattle.std.specs.Prelude.{◌≡◌, IfSome, true};
 
 use crate::sink::Sink;
-use crate::{Batch, Batches, carry_all, fetch_batch, room_over};
+use crate::{Batch, Batches, Noted, carry_all, go_on, rest_after, room_over, try_batch};
 use rsx_sources::{Front, Machine, NotMade};
 use rsx_tree::{Edge, Node, NodeMove};
 use rsx_types::{NoMemory, Ops, Signal};
@@ -558,15 +558,17 @@ impl<M: Machine> Rooted<M> {
 }
 
 impl<M: Batches> Rooted<M> {
-    ghost use Rattle.std.specs.Prelude.{◌≡◌, ◌≤◌, [], length, true, false};
-    ghost use Rattle.rsx_rooted.specs.Fetched.{AreFetched};
+    ghost use Rattle.std.specs.Prelude.{◌≡◌, ◌≤◌, [], length, true, false, IfSome};
+    ghost use Rattle.rsx_rooted.specs.Fetched.{AreFed, AreFetched};
+    ghost use Rattle.rsx_rooted.specs.Made.{FitsOver, HasGoneOnBy};
 
     /// Pulls at most `most` items through the tree and over the root edge, many at once: what that many calls of [`Rooted::fetch`]
     /// would do it does for all of them. They are in `batch`: the caller puts them into the queue behind the root edge, which has to
     /// have room, or takes them from there at once. Each move takes one of the budget that is `left`, and at least as much of it
     /// remains as there are items.
     ///
-    /// It answers no where the way to the items isn't straight, as [`fetch_batch`] says. Then nothing has changed.
+    /// It answers no where the way to the items isn't straight, as [`try_batch`] says, and where the budget is short of all this.
+    /// Then nothing has changed.
     pub fn fetch_batch<O: Ops<Item = M::Item>>(
         &mut self,
         alloc: Global,
@@ -582,14 +584,61 @@ impl<M: Batches> Rooted<M> {
         ensures behind { result ≡ true → length batch.new.items.items ≤ left.new }
         ensures no { result ≡ false → (self.new ≡ self.old) × (left.new ≡ left.old) }
     {
-        let fewer = most.min(room_over(&self.root));
-        if !fetch_batch(alloc, ops, &mut self.tree, fewer, left, batch) {
+        let Some(rest) = self.try_batch(alloc, ops, most, *left, batch) else {
             return false;
-        }
-        let behind = *left;
+        };
         let count = batch.items.len() as u64;
-        carry_all(&mut self.root, count);
-        *left = behind - count as u32;
+        self.go_on_batch(count, &mut batch.notes);
+        *left = rest;
         true
+    }
+
+    /// The first half of [`Rooted::fetch_batch`]: makes the batch of items, and leaves the tree as it is. Answers how much of the budget
+    /// `left` is left once it has gone on by the batch ([`Rooted::go_on_batch`]). None where there is no such batch. What is in `batch`
+    /// then stands for nothing.
+    pub fn try_batch<O: Ops<Item = M::Item>>(
+        &self,
+        alloc: Global,
+        ops: &O,
+        most: u64,
+        left: u32,
+        batch: &mut Batch<M::Item>,
+    ) -> Option<u32>
+        requires items { batch.old.items.items ≡ [] }
+        requires notes { batch.old.notes.items ≡ [] }
+        ensures fits { IfSome result (λ rest. FitsOver batch.new.notes.items (length batch.new.items.items) self.now) }
+        ensures fetched { IfSome result (λ rest. (new : Rooted M) → HasGoneOnBy M.went batch.new.notes.items (length batch.new.items.items) self.now new →
+            AreFetched M.Machine (O.meaning ops.now) left self.now batch.new.items.items rest new) }
+
+        // Each move, one by one, for a caller that counts them as moves of its own.
+        ensures fed { IfSome result (λ rest. (new : Rooted M) → HasGoneOnBy M.went batch.new.notes.items (length batch.new.items.items) self.now new →
+            AreFed M.Machine (O.meaning ops.now) left self.now batch.new.items.items rest new) }
+        ensures most { IfSome result (λ rest. length batch.new.items.items ≤ most) }
+        ensures behind { IfSome result (λ rest. length batch.new.items.items ≤ rest) }
+    {
+        let fewer = most.min(room_over(&self.root));
+        if !try_batch(
+            alloc,
+            ops,
+            &self.tree.machine,
+            &self.tree.inputs,
+            fewer,
+            batch,
+        ) {
+            return None;
+        }
+        let behind = rest_after(left, batch)?;
+        Some(behind - batch.items.len() as u32)
+    }
+
+    /// The second half: has the tree go on by a batch of so many items, of which this was noted, and counts them over the root edge. It
+    /// takes no memory.
+    pub fn go_on_batch(&mut self, count: u64, notes: &mut Vec<Noted<M::Item>>)
+        requires { FitsOver notes.old.items count self.old }
+        ensures went { HasGoneOnBy M.went notes.old.items count self.old self.new }
+        ensures all { notes.new.items ≡ [] }
+    {
+        go_on(&mut self.tree.machine, &mut self.tree.inputs, notes);
+        carry_all(&mut self.root, count);
     }
 }
