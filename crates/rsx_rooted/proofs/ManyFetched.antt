@@ -5,11 +5,11 @@ use Rattle.rsx_rooted.specs.Items.{IsOutBy, IsRowBatch, carried, room, steps_for
 use Rattle.rsx_sources.specs.Prelude.{Meaning, Next}
 use Rattle.rsx_sources.specs.declared.machine.Machine.{Ghosts as Machine}
 use Rattle.rsx_tree.proofs.Fetches.{fetched_tree, root_step_out}
-use Rattle.rsx_tree.proofs.Runs.{leads_by_on}
+use Rattle.rsx_tree.proofs.Runs.{leads_by_lift, leads_by_on}
 use Rattle.rsx_tree.specs.Driven.{IsRowRun}
 use Rattle.rsx_tree.specs.Inputs.{closed_row_if}
 use Rattle.rsx_tree.specs.Prelude.{edge_view, is_live}
-use Rattle.rsx_tree.specs.Runs.{LeadsBy}
+use Rattle.rsx_tree.specs.Runs.{Leads, LeadsBy}
 use Rattle.rsx_tree.specs.declared.edge.Edge.{Edge}
 use Rattle.rsx_tree.specs.declared.inputs.Inputs.{Inputs}
 use Rattle.rsx_rooted.proofs.Fetches.{root_moved, worked_once}
@@ -81,6 +81,25 @@ pub tried_fed : {M T : Type 0} (b : Machine M T) (went : M → Noted T → M →
 tried_fed b went m xs notes budget left old new tried spent fits gone =
     are_fed b m tried.by_step xs (moves_of notes) budget left old.tree.machine new.tree.machine old.tree.inputs new.tree.inputs old.root new.root
     (tried.made old.root.demand.asked old.root.demand.sent new.tree.machine new.tree.inputs gone.tree) spent fits gone.root
+
+-- for a state beside the part, which takes each item as it is sent: so many steps of the two lead from the first ones to the last
+pub fed_beside : {M T U : Type 0} (b : Machine M T) (m : Meaning T) (takes : U → T → U → Type 0) (step : Rooted M × U → Rooted M × U → Type 0) →
+    ((x y : Rooted M) (u : U) → IsMovedInside b m x y → step (x, u) (y, u)) →
+    ((x y : Rooted M) (u v : U) (item : T) → IsSentOut b m x (Next item) y → takes u item v → step (x, u) (y, v)) →
+    (items : List T) (budget left : ℕ) (old new : Rooted M) (u v : U) → AreFed b m budget old items left new → Leads takes u items v → (n : ℕ) × (n + left ≡ budget) × LeadsBy step n (old, u) (new, v)
+fed_beside {M} {T} {U} b m takes step moves sends [] budget left old new u v h taken =
+    let P : U → Type 0 = λ w. (n : ℕ) × (n + left ≡ budget) × LeadsBy step n (old, u) (new, w) in
+    let here : Rooted M → Rooted M × U = λ x. (x, u) in
+    subst P (sym taken) (h.0, h.1, leads_by_lift (IsMovedInside b m) step here (λ x y w. moves x y u w) h.0 old new h.2)
+fed_beside {M} {T} {U} b m takes step moves sends (item ∷ items) budget left old new u v h taken =
+    let here : Rooted M → Rooted M × U = λ x. (x, u) in
+    let before = leads_by_lift (IsMovedInside b m) step here (λ x y w. moves x y u w) h.0 old h.2 h.5 in
+    let sent = sends h.2 h.3 u taken.0 item h.6 taken.1 in
+    let first = leads_by_on step h.0 1 (old, u) (h.2, u) (h.3, taken.0) before ((h.3, taken.0), sent, refl) in
+    let rest = fed_beside b m takes step moves sends items h.1 left h.3 new taken.0 v h.7 taken.2 in
+    let spent = h.4 in
+    let others = rest.1 in
+    (h.0 + 1 + rest.0, omega (arith, spent, others), leads_by_on step (h.0 + 1) rest.0 (old, u) (h.3, taken.0) (new, v) first rest.2)
 
 -- ---- many moves
 
