@@ -1,6 +1,8 @@
 -- A node of any kind makes the batches that its kind makes.
 use Rattle.std.proofs.Common.{◌≡◌, ℕ, suc, Bool, true, false, if◌then◌else◌, None, List, [], ◌∷◌, length, Some, inl, inr, refl, ap, sym, ◌∙◌, subst, ◌≤◌, arith}
 use Rattle.std.proofs.lemmas.Bool.{true≢false}
+use Rattle.rsx_hub.specs.Leaf.{LeafState}
+use Rattle.rsx_rooted.proofs.HubLeaves.{leaf_machine}
 use Rattle.rsx_rooted.proofs.OneByOne.{passed_in, popped_in}
 use Rattle.rsx_rooted.specs.Items.{ArePassed, ArePopped, IsIn, IsOutBy}
 use Rattle.rsx_rooted.specs.Machines.{plain_machine, range_machine}
@@ -68,6 +70,9 @@ source_machine = record {
 out_range : {T : Type 0} (m : Meaning T) (s : RangeNode T) (x : T) (t : RangeNode T) → IsOut range_machine m s x t → IsOut source_machine m (Range s) x (Range t)
 out_range m s x t h = (record { waited = h.0.waited; popped_out = h.0.popped_out; value = h.0.value; notes = h.0.notes; counts = h.0.counts }, h.1)
 
+out_hub : {T : Type 0} (m : Meaning T) (s : LeafState T) (x : T) (t : LeafState T) → IsOut leaf_machine m s x t → IsOut source_machine m (Hub s) x (Hub t)
+out_hub m s x t h = (record { waited = h.0.waited; popped_out = h.0.popped_out; value = h.0.value; notes = h.0.notes; counts = h.0.counts }, h.1)
+
 out_source : {T : Type 0} (m : Meaning T) (s : SourceNode T) (x : T) (t : SourceNode T) → IsOut source_machine m s x t → IsOut kind_machine m (Source s) x (Source t)
 out_source m s x t h = (record { waited = h.0.waited; popped_out = h.0.popped_out; value = h.0.value; notes = h.0.notes; counts = h.0.counts }, h.1)
 
@@ -108,6 +113,13 @@ popped_source m n noted xs h (Window k) w = absurd w
 popped_source m n noted xs h (FlatMap k) w = absurd w
 popped_source m n noted xs h (FlatMapDelay k) w = absurd w
 popped_source m n noted xs h (GroupBy k) w = absurd w
+
+-- the items that a node which reads a hub lets out at once
+pub hub_popped : {T : Type 0} (m : Meaning T) (xs : List T) (n k : LeafState T) → ArePopped (IsOut leaf_machine m) n xs k → ArePopped (IsOut source_machine m) (Hub n) xs (Hub k)
+hub_popped m xs n k h = popped_in Hub (IsOut leaf_machine m) (IsOut source_machine m) (out_hub m) xs n k h
+
+pub source_popped_all : {T : Type 0} (m : Meaning T) (xs : List T) (n k : SourceNode T) → ArePopped (IsOut source_machine m) n xs k → ArePopped (IsOut kind_machine m) (Source n) xs (Source k)
+source_popped_all m xs n k h = popped_in Source (IsOut source_machine m) (IsOut kind_machine m) (out_source m) xs n k h
 
 no_plain_step : {T : Type 0} (m : Meaning T) (s : PlainNode T) (asked sent : ℕ) (t : PlainNode T) → IsStepOf plain_machine m s asked sent t → ⊥
 no_plain_step m s asked sent t (inl p) = true≢false (sym p.1.can)

@@ -1,5 +1,6 @@
 //! Batches through nodes of any kind. Ranges make them, and plain operators, a concat, a merge, a combineLatest and a `publishOn` with an
-//! empty queue pass them on. A node that reads a hub takes in several of its items at once.
+//! empty queue pass them on. A node that reads a hub takes in several of its items at once, and as
+//! the root of its tree it lets several out at once.
 
 ghost use Rattle.std.specs.Prelude.{◌≡◌, [], true};
 ghost use Rattle.rsx_kinds.specs.Spaces.{any_spaces, source_spaces};
@@ -49,6 +50,20 @@ impl<T: Drop> Batches for SourceNode<T> {
         spare: &mut Vec<T>,
     ) -> Option<Noted<T>> {
         None
+    }
+
+    #[inline]
+    fn take_out<O: Ops<Item = T>>(
+        &mut self,
+        alloc: Global,
+        ops: &O,
+        most: u64,
+        items: &mut Vec<T>,
+    ) -> bool {
+        match self {
+            SourceNode::Hub(node) => node.take_out(alloc, ops, most, items),
+            SourceNode::Items(_) | SourceNode::Range(_) => false,
+        }
     }
 
     fn go_on(&mut self, noted: Noted<T>)
@@ -260,6 +275,27 @@ impl<T: Drop> Batches for AnyNode<T> {
             | AnyNode::FlatMap(_)
             | AnyNode::FlatMapDelay(_)
             | AnyNode::GroupBy(_) => None,
+        }
+    }
+
+    #[inline]
+    fn take_out<O: Ops<Item = T>>(
+        &mut self,
+        alloc: Global,
+        ops: &O,
+        most: u64,
+        items: &mut Vec<T>,
+    ) -> bool {
+        match self {
+            AnyNode::Source(node) => node.take_out(alloc, ops, most, items),
+            AnyNode::Plain(_)
+            | AnyNode::Several(_)
+            | AnyNode::PublishOn(_)
+            | AnyNode::PublishOnEager(_)
+            | AnyNode::Window(_)
+            | AnyNode::FlatMap(_)
+            | AnyNode::FlatMapDelay(_)
+            | AnyNode::GroupBy(_) => false,
         }
     }
 

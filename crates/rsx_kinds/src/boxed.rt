@@ -324,6 +324,17 @@ impl<N: Batches> Batches for Boxed<N> {
         self.node.try_pass(alloc, ops, input, items, spare)
     }
 
+    #[inline]
+    fn take_out<O: Ops<Item = Self::Item>>(
+        &mut self,
+        alloc: Global,
+        ops: &O,
+        most: u64,
+        items: &mut Vec<Self::Item>,
+    ) -> bool {
+        self.node.take_out(alloc, ops, most, items)
+    }
+
     fn go_on(&mut self, noted: Noted<Self::Item>)
         ensures { N.went self.old noted self.new }
     {

@@ -55,6 +55,13 @@ right_out_by a b m true s x t h = λ asked sent less.
     let o = h asked sent less in
     (Right o.0, right_step a b m s asked sent o.0 o.1, o.2, right_out a b m o.0 x t o.3)
 
+-- the items that a node of either kind lets out at once
+pub left_popped : {A B T : Type 0} (a : Machine A T) (b : Machine B T) (m : Meaning T) (xs : List T) (n k : A) → ArePopped (IsOut a m) n xs k → ArePopped (IsOut (either a b) m) (Left n) xs (Left k)
+left_popped a b m xs n k h = popped_in Left (IsOut a m) (IsOut (either a b) m) (left_out a b m) xs n k h
+
+pub right_popped : {A B T : Type 0} (a : Machine A T) (b : Machine B T) (m : Meaning T) (xs : List T) (n k : B) → ArePopped (IsOut b m) n xs k → ArePopped (IsOut (either a b) m) (Right n) xs (Right k)
+right_popped a b m xs n k h = popped_in Right (IsOut b m) (IsOut (either a b) m) (right_out a b m) xs n k h
+
 module _ {A B T : Type 0} (a : Machine A T) (b : Machine B T) (p : A → Noted T → A → Type 0) (q : B → Noted T → B → Type 0) (m : Meaning T) where
   abbrev went : EitherNode A B → Noted T → EitherNode A B → Type 0
   went old noted new = OfOneKind (λ x y. p x noted y) (λ x y. q x noted y) old new

@@ -48,6 +48,20 @@ impl<A: Batches, B: Batches<Item = A::Item>> Batches for EitherNode<A, B> {
         }
     }
 
+    #[inline]
+    fn take_out<O: Ops<Item = Self::Item>>(
+        &mut self,
+        alloc: Global,
+        ops: &O,
+        most: u64,
+        items: &mut Vec<Self::Item>,
+    ) -> bool {
+        match self {
+            EitherNode::Left(node) => node.take_out(alloc, ops, most, items),
+            EitherNode::Right(node) => node.take_out(alloc, ops, most, items),
+        }
+    }
+
     fn go_on(&mut self, noted: Noted<Self::Item>)
         ensures { OfOneKind (λ x y. A.went x noted y) (λ x y. B.went x noted y) self.old self.new }
     {

@@ -114,3 +114,7 @@ worked b m (suc n) old new d =
 pub fed_fetched : {M T : Type 0} (b : Machine M T) (m : Meaning T) (xs : List T) (budget left : ℕ) (old new : Rooted M) → AreFed b m budget old xs left new → AreFetched b m budget old xs left new
 fed_fetched b m [] budget left old new h = (h.0, h.1, worked b m h.0 old new h.2)
 fed_fetched b m (x ∷ xs) budget left old new h = (h.1, h.3, (h.0, h.2, h.4, worked b m h.0 old h.2 h.5, h.6), fed_fetched b m xs h.1 left h.3 new h.7)
+
+pub are_fetched : {M T : Type 0} (b : Machine M T) (m : Meaning T) (by : Bool) (xs : List T) (count budget left : ℕ) (r r' : M) (t t' : Inputs M) (e e' : Edge) →
+    IsRowBatch b m by count 0 e.demand.asked e.demand.sent r t xs r' t' → count + length xs + left ≡ budget → length xs ≤ room (edge_view e) → edge_view e' ≡ carried (edge_view e) (length xs) → AreFetched b m budget (whole r t e) xs left (whole r' t' e')
+are_fetched b m by xs count budget left r r' t t' e e' h spent fits over = fed_fetched b m xs budget left (whole r t e) (whole r' t' e') (are_fed b m by xs count budget left r r' t t' e e' h spent fits over)

@@ -79,6 +79,10 @@ pub popped_direct_all : {M T : Type 0} (b : Machine M T) (went : M → Noted T �
 popped_direct_all b went m n noted xs h (Direct k) w = popped_in Direct (IsOutBy b m noted.by_step) (IsOutBy (sender_machine b) m noted.by_step) (out_direct_by b m noted.by_step) xs n k (h k w)
 popped_direct_all b went m n noted xs h (Crossing k) w = absurd w
 
+-- the items that the node inside lets out
+pub popped_direct : {M T : Type 0} (b : Machine M T) (m : Meaning T) (xs : List T) (n k : M) → ArePopped (IsOut b m) n xs k → ArePopped (IsOut (sender_machine b) m) (Direct n) xs (Direct k)
+popped_direct b m xs n k h = popped_in Direct (IsOut b m) (IsOut (sender_machine b) m) (out_direct b m) xs n k h
+
 -- ---- over an empty queue
 
 -- a node with an empty queue

@@ -51,9 +51,10 @@ pub trait Batches: Machine {
     /// For how many items of the hub that it reads it has room at once.
     ghost spaces_of: { Self → ℕ };
 
-    ghost use Rattle.std.specs.Prelude.{◌≡◌, ◌≤◌, ℕ, false, [], length, IfSome};
+    ghost use Rattle.std.specs.Prelude.{◌≡◌, ◌≤◌, ℕ, true, false, [], length, IfSome};
     ghost use Rattle.rsx_rooted.specs.Items.{IsIn, IsOutBy, ArePassed, ArePopped, steps_for};
     ghost use Rattle.rsx_rooted.specs.Taking.{IsItemTaken, IsTakenOff};
+    ghost use Rattle.rsx_tree.specs.Fetched.{IsOut};
     ghost use Rattle.rsx_tree.specs.Runs.{Leads};
 
     /// For how many items at most it is worth to try a batch. The answer promises nothing.
@@ -89,6 +90,24 @@ pub trait Batches: Machine {
         ensures most { IfSome result (λ noted. length items.new.items ≤ length items.old.items) }
         ensures passed { IfSome result (λ noted. (new : Self) → went self.now noted new →
             ArePassed (IsIn Self.Machine (O.meaning ops.now) input) (IsOutBy Self.Machine (O.meaning ops.now) noted.by_step) self.now items.old.items items.new.items new) };
+
+    /// Takes out of it the items that it offers next, at most so many, and puts them into the list, which is empty. It answers no where
+    /// it doesn't do so at once, as for want of memory. Then nothing has changed.
+    #[inline(always)]
+    fn take_out<O: Ops<Item = Self::Item>>(
+        &mut self,
+        alloc: Global,
+        ops: &O,
+        most: u64,
+        items: &mut Vec<Self::Item>,
+    ) -> bool
+        requires { items.old.items ≡ [] }
+        ensures yes { result ≡ true → ArePopped (IsOut Self.Machine (O.meaning ops.now)) self.old items.new.items self.new }
+        ensures most { length items.new.items ≤ most }
+        ensures no { result ≡ false → (self.new ≡ self.old) × (items.new.items ≡ []) }
+    {
+        false
+    }
 
     /// Goes on by a batch, as it noted.
     fn go_on(&mut self, noted: Noted<Self::Item>)

@@ -1,4 +1,5 @@
-//! The node that reads a hub takes in several items of it at once. It makes no batch.
+//! The node that reads a hub takes in several items of it at once, and lets several that wait out at once. It makes no batch: a node
+//! above it may decline an item, and items that wait can't be copied for that.
 
 ghost use Rattle.std.specs.Prelude.{◌≡◌};
 ghost use Rattle.rsx_hub.specs.Leaf.{leaf_spaces};
@@ -8,6 +9,9 @@ use rsx_hub::HubLeaf;
 use rsx_sources::Machine;
 use rsx_types::{Ops, Signal};
 use std::alloc::Global;
+
+/// The fewest items that are taken out at once: fewer come sooner one by one.
+const FEWEST_TAKEN_OUT: u64 = 4;
 
 impl<T: Drop> Batches for HubLeaf<T> {
     ghost went = { λ old noted new. new ≡ old };
@@ -37,6 +41,31 @@ impl<T: Drop> Batches for HubLeaf<T> {
         spare: &mut Vec<T>,
     ) -> Option<Noted<T>> {
         None
+    }
+
+    fn take_out<O: Ops<Item = T>>(
+        &mut self,
+        alloc: Global,
+        ops: &O,
+        most: u64,
+        items: &mut Vec<T>,
+    ) -> bool {
+        let fewer = most.min(self.len() as u64);
+        if fewer < FEWEST_TAKEN_OUT {
+            return false;
+        }
+        let mut out = match Vec::with_capacity(alloc, fewer as usize) {
+            Ok(out) => out,
+            Err(_) => return false,
+        };
+        for gone in 0..fewer {
+            match self.pop_item(alloc, ops) {
+                Some(item) => out.push_reserved(item),
+                None => break,
+            }
+        }
+        *items = out;
+        true
     }
 
     fn go_on(&mut self, noted: Noted<T>)

@@ -23,7 +23,8 @@
 //! bottom makes items, and the nodes above it make of them what they would put out, all in lists beside the tree. What the nodes are
 //! after it they note. Where a node declines an item, as that of a caller's function that fails, all this is let go of, and single
 //! moves go on from there. Else the nodes go on as they noted, and the edges count what went over them. A batch of n items does just
-//! what n calls of [`Node::fetch`](rsx_tree::Node::fetch) do, one after the other.
+//! what n calls of [`Node::fetch`](rsx_tree::Node::fetch) do, one after the other. Items that wait in a root with nothing below it need
+//! no try: no node stands above that could decline one, so they are moved out.
 //!
 //! What is proved here is proved of all kinds of nodes at once. The definitions stand in `specs/`, apart from the code: `Rooted`
 //! (what a tree stands for, which of its moves are enabled, and what they change), `Fetched` (an item that is pulled through

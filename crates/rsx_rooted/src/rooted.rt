@@ -5,7 +5,7 @@ ghost use Rattle.std.specs.Prelude.{◌≡◌, IfSome, true};
 use crate::sink::Sink;
 use crate::{Batch, Batches, Noted, carry_all, go_on, rest_after, room_over, try_batch};
 use rsx_sources::{Front, Machine, NotMade};
-use rsx_tree::{Edge, Node, NodeMove};
+use rsx_tree::{Edge, Inputs, Node, NodeMove};
 use rsx_types::{NoMemory, Ops, Signal};
 use std::alloc::Global;
 
@@ -559,7 +559,9 @@ impl<M: Machine> Rooted<M> {
 
 impl<M: Batches> Rooted<M> {
     ghost use Rattle.std.specs.Prelude.{◌≡◌, ◌≤◌, [], length, true, false, IfSome};
+    ghost use Rattle.rsx_tree.specs.Edges.{edge_view};
     ghost use Rattle.rsx_rooted.specs.Fetched.{AreFed, AreFetched};
+    ghost use Rattle.rsx_rooted.specs.Items.{room};
     ghost use Rattle.rsx_rooted.specs.Made.{FitsOver, HasGoneOnBy};
 
     /// Pulls at most `most` items through the tree and over the root edge, many at once: what that many calls of [`Rooted::fetch`]
@@ -567,8 +569,8 @@ impl<M: Batches> Rooted<M> {
     /// have room, or takes them from there at once. Each move takes one of the budget that is `left`, and at least as much of it
     /// remains as there are items.
     ///
-    /// It answers no where the way to the items isn't straight, as [`try_batch`] says, and where the budget is short of all this.
-    /// Then nothing has changed.
+    /// Items that wait in a root with nothing below it are moved out ([`Batches::take_out`]). Else it answers no where the way to the
+    /// items isn't straight, as [`try_batch`] says, and where the budget is short of all this. Then nothing has changed.
     pub fn fetch_batch<O: Ops<Item = M::Item>>(
         &mut self,
         alloc: Global,
@@ -584,6 +586,10 @@ impl<M: Batches> Rooted<M> {
         ensures behind { result ≡ true → length batch.new.items.items ≤ left.new }
         ensures no { result ≡ false → (self.new ≡ self.old) × (left.new ≡ left.old) }
     {
+        let fewer = most.min(room_over(&self.root));
+        if self.take_out(alloc, ops, fewer, left, &mut batch.items) {
+            return true;
+        }
         let Some(rest) = self.try_batch(alloc, ops, most, *left, batch) else {
             return false;
         };
@@ -640,5 +646,58 @@ impl<M: Batches> Rooted<M> {
     {
         go_on(&mut self.tree.machine, &mut self.tree.inputs, notes);
         carry_all(&mut self.root, count);
+    }
+
+    /// Where nothing stands below the root, takes at most `most` of the items that wait in it out at once, and counts them as sent over
+    /// the root edge, which has room for so many. No node stands above the root that could decline one. Each takes one of the budget
+    /// that is `left`, and at least as much of it remains as there are items. Where it answers no, nothing has changed.
+    #[inline(always)]
+    fn take_out<O: Ops<Item = M::Item>>(
+        &mut self,
+        alloc: Global,
+        ops: &O,
+        most: u64,
+        left: &mut u32,
+        items: &mut Vec<M::Item>,
+    ) -> bool
+        requires items { items.old.items ≡ [] }
+        requires room { most ≤ room (edge_view self.old.root) }
+        ensures yes { result ≡ true → AreFetched M.Machine (O.meaning ops.now) left.old self.old items.new.items left.new self.new }
+        ensures most { result ≡ true → length items.new.items ≤ most }
+        ensures behind { result ≡ true → length items.new.items ≤ left.new }
+        ensures no { result ≡ false → (self.new ≡ self.old) × (left.new ≡ left.old) × (items.new.items ≡ []) }
+    {
+        match &self.tree.inputs {
+            Inputs::End => self.take_out_of_root(alloc, ops, most, left, items),
+            Inputs::More(_, _, _, _) => false,
+        }
+    }
+
+    /// The same, whatever stands below.
+    #[inline(never)]
+    fn take_out_of_root<O: Ops<Item = M::Item>>(
+        &mut self,
+        alloc: Global,
+        ops: &O,
+        most: u64,
+        left: &mut u32,
+        items: &mut Vec<M::Item>,
+    ) -> bool
+        requires items { items.old.items ≡ [] }
+        requires room { most ≤ room (edge_view self.old.root) }
+        ensures yes { result ≡ true → AreFetched M.Machine (O.meaning ops.now) left.old self.old items.new.items left.new self.new }
+        ensures most { result ≡ true → length items.new.items ≤ most }
+        ensures behind { result ≡ true → length items.new.items ≤ left.new }
+        ensures no { result ≡ false → (self.new ≡ self.old) × (left.new ≡ left.old) × (items.new.items ≡ []) }
+    {
+        let budget = *left;
+        let fewer = most.min(u64::from(budget / 2));
+        if !self.tree.machine.take_out(alloc, ops, fewer, items) {
+            return false;
+        }
+        let sent = items.len() as u64;
+        carry_all(&mut self.root, sent);
+        *left = budget - sent as u32;
+        true
     }
 }

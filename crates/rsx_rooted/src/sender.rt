@@ -66,6 +66,20 @@ impl<M: Batches<Item = T>, T: Drop> Batches for Sender<M, T> {
         }
     }
 
+    #[inline]
+    fn take_out<O: Ops<Item = T>>(
+        &mut self,
+        alloc: Global,
+        ops: &O,
+        most: u64,
+        items: &mut Vec<T>,
+    ) -> bool {
+        match self {
+            Sender::Direct(node) => node.take_out(alloc, ops, most, items),
+            Sender::Crossing(_) => false,
+        }
+    }
+
     fn go_on(&mut self, noted: Noted<T>)
         ensures { sender_went M.went self.old noted self.new }
     {
