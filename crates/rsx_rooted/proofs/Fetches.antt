@@ -62,6 +62,10 @@ fetched_first b m budget left x y z some same is k =
     let here : IsFetched b m budget x None budget y = fetched_same b m budget budget x x y (fetched_nothing b m budget x) is in
     fetched_step b m budget left x y z (subst (λ (n : ℕ). IsFetched b m budget x None n y) (sym same) here) (omega (arith, some, same)) k
 
+-- moves, where nothing had changed
+pub fetched_after : {M T : Type 0} (b : Machine M T) (m : Meaning T) (budget left left' : ℕ) (x y z : Rooted M) (o : Option T) → left ≡ budget → y ≡ x → IsFetched b m left y o left' z → IsFetched b m budget x o left' z
+fetched_after b m budget left left' x y z o same is h = fetched_on b m budget left left' x y z o (fetched_still b m budget left x y y same is refl) h
+
 -- the same answer
 pub same_answer : {M T : Type 0} (b : Machine M T) (m : Meaning T) (budget left : ℕ) (old new : Rooted M) (o p : Option T) → o ≡ p → IsFetched b m budget old o left new → IsFetched b m budget old p left new
 same_answer {M} {T} b m budget left old new o p is h = let Q : Option T → Type 0 = λ q. IsFetched b m budget old q left new in subst Q is h

@@ -319,7 +319,8 @@ impl<M: Machine> Rooted<M> {
     }
 
     /// Makes a pick or a row of the root, where one is enabled, and takes it from the budget that is `left`. Where the root gives the item
-    /// of it out at once, that goes over the root edge, by one move more, and is answered.
+    /// of it out at once, that goes over the root edge, by one move more, and is answered. Where the root mostly does so and gives none
+    /// now, more such steps may follow the first ([`Rooted::step_on`]).
     #[inline(always)]
     fn count_step<O: Ops<Item = M::Item>>(
         &mut self,
@@ -344,10 +345,15 @@ impl<M: Machine> Rooted<M> {
         }
         let step = match first {
             Some(step) => step,
-            None => match self.tree.first_step(&self.root) {
-                Some(step) => step,
-                None => return Ok(None),
-            },
+            None => {
+                let Some(step) = self.tree.first_step(&self.root) else {
+                    return Ok(None);
+                };
+                return match self.step_on(alloc, ops, step, left) {
+                    Ok(()) => Ok(None),
+                    Err(NoMemory) => Err(NoMemory),
+                };
+            }
         };
         match self.make_step(alloc, ops, step) {
             Ok(true) => {
@@ -356,6 +362,46 @@ impl<M: Machine> Rooted<M> {
             }
             Ok(false) => Ok(None),
             Err(NoMemory) => Err(NoMemory),
+        }
+    }
+
+    /// Makes this pick or row of the root, and where that has several inputs makes it again as long as it is the one that the root would
+    /// make next. Each takes one of the budget that is `left`. An input of a combineLatest is picked so until a row comes of it or its
+    /// queue is empty, with no look for items below the root in between.
+    // A root whose steps mostly give an item out at once seldom comes here; inlined, it would make the way of these items longer.
+    #[inline(never)]
+    fn step_on<O: Ops<Item = M::Item>>(
+        &mut self,
+        alloc: Global,
+        ops: &O,
+        step: NodeMove,
+        left: &mut u32,
+    ) -> Result<(), NoMemory>
+        ensures { IsFetched M.Machine (O.meaning ops.now) left.old self.old None left.new self.new }
+    {
+        'again: while *left > 0 {
+            match self.make_step(alloc, ops, step) {
+                Ok(true) => *left = *left - 1,
+                Ok(false) => return Ok(()),
+                Err(NoMemory) => return Err(NoMemory),
+            }
+            // With one input the look below is short, and seldom comes twice.
+            if !self.has_several_inputs() || self.tree.first_step(&self.root) != Some(step) {
+                return Ok(());
+            }
+        }
+        Ok(())
+    }
+
+    /// Whether the root has several inputs. The answer promises nothing.
+    #[inline]
+    fn has_several_inputs(&self) -> bool {
+        match &self.tree.inputs {
+            Inputs::End => false,
+            Inputs::More(_, _, _, beside) => match &**beside {
+                Inputs::End => false,
+                Inputs::More(_, _, _, _) => true,
+            },
         }
     }
 
