@@ -127,6 +127,15 @@ items_of (Error c) = 0
 abbrev pub takes_signal : {T : Type 0} → HubState T → Signal T → Bool
 takes_signal h s = is_open h.ending && (is_nil h.inbox && nat_le (h.count + items_of s) MOST_ACCEPTED)
 
+-- whether it takes so many items in from a feed one after the other, and keeps none of them
+abbrev pub takes_many : {T : Type 0} → HubState T → ℕ → Bool
+takes_many h n = is_open h.ending && (is_nil h.inbox && (nat_eq (replayed h.kind) 0 && nat_le (h.count + n) MOST_ACCEPTED))
+
+-- the second is the first after these items were taken in from a feed, one after the other: it took each of them
+abbrev pub AreTakenIn : {T : Type 0} → HubState T → List T → HubState T → Type 0
+AreTakenIn a [] b = b ≡ a
+AreTakenIn {T} a (x ∷ xs) b = (mid : HubState T) × (takes_signal a (Next x) ≡ true) × (mid ≡ taken_in a (Next x)) × AreTakenIn mid xs b
+
 -- why it doesn't
 abbrev pub IsNotTakenIn : {T : Type 0} → HubState T → Signal T → TakeInRefusal → Type 0
 IsNotTakenIn h s HubEnded = is_open h.ending ≡ false

@@ -1,13 +1,13 @@
 //! The hub: an inbox, and what it keeps for new members.
 
-ghost use Rattle.std.specs.Prelude.{◌≡◌, ◌≢◌, ◌+◌, ◌<◌, ◌≤◌, ◌↔◌, ◌++◌, [], true, false, length, reverse, vec_len, vec_capacity, IfOk, IfErr, OnOk, OnErr, IsOk, IsTrue, option_map, option_copied, slice_get};
+ghost use Rattle.std.specs.Prelude.{◌≡◌, ◌≢◌, ◌+◌, ◌<◌, ◌≤◌, ◌↔◌, ◌++◌, [], true, false, length, reverse, vec_len, vec_capacity, IfOk, IfErr, OnOk, OnErr, IsOk, IsTrue, List, option_map, option_copied, slice_get};
 ghost use Rattle.circular_buffer.specs.Buffer.{buffer};
 ghost use Rattle.rsx_types.specs.declared.signal.Cause.TheVariants.{User};
 ghost use Rattle.rsx_types.specs.declared.signal.Ending.TheVariants.{Done, Failed};
 ghost use Rattle.rsx_types.specs.declared.signal.Signal.TheVariants.{Next};
 ghost use Rattle.rsx_sources.specs.Machine.{front_of};
 ghost use Rattle.rsx_hub.specs.Hub as spec;
-ghost use Rattle.rsx_hub.specs.Hub.{replayed, fresh_hub, IsNotMade, accepts_items, emitted, IsRejected, ended_with, waiting, taken_in, accepted, all_accepted, takes_signal, IsNotTakenIn, HasTakenIn, IsNotCounted, kept_copy, IsNotAdmitted, with_members};
+ghost use Rattle.rsx_hub.specs.Hub.{replayed, fresh_hub, IsNotMade, accepts_items, emitted, IsRejected, ended_with, waiting, taken_in, accepted, all_accepted, takes_signal, AreTakenIn, IsNotTakenIn, HasTakenIn, IsNotCounted, kept_copy, IsNotAdmitted, with_members};
 ghost use Rattle.rsx_hub.specs.Member.{fresh_member, ReadsFromJoin};
 ghost use Rattle.rsx_hub.specs.Waiting.{is_open};
 ghost use Rattle.rsx_hub.specs.declared.TheConstants.{MOST_ACCEPTED, MOST_MEMBERS};
@@ -377,6 +377,26 @@ impl<T: Drop> Hub<T> {
                 Ok(())
             }
         }
+    }
+
+    /// Whether the hub takes so many items in from its feed one after the other, and keeps none of them for new members: it has not
+    /// ended, nothing waits in its inbox, and it has accepted at most 2^63 - 1 items with these.
+    pub fn takes_many(&self, items: u64) -> bool
+        ensures { result ≡ spec.takes_many self.now items }
+    {
+        if !ending::is_open(self.ending) || !self.inbox.is_empty() || !self.keeps_none() {
+            return false;
+        }
+        items <= MOST_ACCEPTED - self.count
+    }
+
+    /// Takes so many items in that the hub's feed sends, one after the other. It takes them in ([`Hub::takes_many`]). They stay with
+    /// the caller, who hands them to the members. It takes no memory.
+    pub fn take_in_many(&mut self, items: u64)
+        requires { spec.takes_many self.old items ≡ true }
+        ensures { (xs : List T) → length xs ≡ items → AreTakenIn self.old xs self.new }
+    {
+        self.count += items;
     }
 
     /// Whether the hub takes a signal like this in from its feed ([`Hub::take_in`]), memory aside: it has not ended, nothing
