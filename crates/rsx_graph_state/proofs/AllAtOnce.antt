@@ -230,4 +230,4 @@ far_through {M} {T} mc h given i xs ys items done k = (
 
 -- the same of whatever was laid out
 unfoldable pub IsHandedOn : {M T : Type 0} → Machine M T → (M → ℕ) → ℕ → ℕ → ℕ → List (Subscription M T) → List (Subscription M T) → List T → List T → Type 0
-IsHandedOn {M} {T} mc spaces h count i xs ys old new = (given : List T) → old ≡ blocks (counts.readers mc h xs) (reverse given) → length given ≡ count → count ≤ spaces_of_all mc spaces h count xs → IsFar mc h given i xs ys new
+IsHandedOn {M} {T} mc spaces h count i xs ys old new = (most : ℕ) (given : List T) → old ≡ blocks (counts.readers mc h xs) (reverse given) → length given ≡ count → count ≤ spaces_of_all mc spaces h most xs → IsFar mc h given i xs ys new

@@ -128,7 +128,7 @@ pasts_to {T} pasts i (s ∷ ss) =
     changed_twice f g (x ∷ xs) zero = refl
     changed_twice f g (x ∷ xs) (suc i) = ap (λ l. x ∷ l) (changed_twice f g xs i)
 
-set_twice : {A : Type 0} (xs : List A) (i : ℕ) (a b : A) → set (set xs i a) i b ≡ set xs i b
+pub set_twice : {A : Type 0} (xs : List A) (i : ℕ) (a b : A) → set (set xs i a) i b ≡ set xs i b
 set_twice [] i a b = refl
 set_twice (x ∷ xs) zero a b = refl
 set_twice (x ∷ xs) (suc i) a b = ap (λ l. x ∷ l) (set_twice xs i a b)

@@ -15,6 +15,7 @@ pub mod Places
 pub mod Publishes
 pub mod Ready
 pub mod Sends
+pub mod SentMany
 pub mod Skipping
 pub mod SubscriptionSets
 pub mod Taken

@@ -1,6 +1,6 @@
 -- Feeds to whose nodes a signal of a hub is handed.
 use Rattle.rsx_sources.specs.declared.machine.Machine.{Ghosts as Machine}
-use Rattle.std.proofs.Common.{◌≡◌, ℕ, zero, suc, ◌+◌, ◌<◌, ◌≤◌, min, Bool, true, false, nat_lt, if◌then◌else◌, List, [], ◌∷◌, ◌++◌, length, take, slice_get, Some, refl, ap, sym, ◌∙◌, subst, arith, add-zero}
+use Rattle.std.proofs.Common.{◌≡◌, ℕ, zero, suc, ◌+◌, ◌<◌, ◌≤◌, min, Bool, true, false, ◌&&◌, nat_lt, if◌then◌else◌, List, [], ◌∷◌, ◌++◌, length, take, slice_get, Some, refl, ap, sym, ◌∙◌, subst, arith, add-zero}
 use Rattle.std.proofs.lemmas.Bool.Decides.{nat_tests}
 use Rattle.std.proofs.lemmas.List.{append-nil}
 use Rattle.rsx_demand.specs.Demand.{saturating_total}
@@ -11,7 +11,9 @@ use Rattle.rsx_sources.specs.Prelude.{Meaning, Open, Stream, ended_by, signals, 
 use Rattle.rsx_hub.specs.Hub.{HubState}
 use Rattle.rsx_pipe.specs.Published as Part
 use Rattle.rsx_graph_state.specs.Feeds.{FeedStands, IsFeedHanded, begun_edge, has_room_at, reads_at}
+use Rattle.rsx_graph_state.specs.Publishing.{AllFeedsHanded, feed_readers, feeds_have_room}
 use Rattle.rsx_graph_state.specs.declared.feed.Feed.{Feed}
+use Rattle.rsx_graph_state.proofs.Skipping.{part_same, unread_room}
 
 -- ---- numbers of hubs
 
@@ -175,3 +177,33 @@ worked_feed {M} {T} mc m old part move k published e joins f =
       asked = k.asked ∙ f.asked;
       unclosed = k.unclosed f.unclosed;
     }
+
+-- ---- feeds of which no node reads a hub
+
+unread_feed : {M T : Type 0} (mc : Machine M T) (h : ℕ) (s : Signal T) (f : Feed M) → reads_at mc h f ≡ 0 → IsFeedHanded mc h s f f
+unread_feed {M} {T} mc h s f none = by_test (nat_lt h f.hub) refl
+  where
+    by_test : (b : Bool) → nat_lt h f.hub ≡ b → IsFeedHanded mc h s f f
+    by_test true below = feed_handed mc h s f f.part below (part_same mc h s f.part (ap (λ b. if b then Part.readers mc h f.part else 0) (sym below) ∙ none))
+    by_test false not = feed_unhanded mc h s f not
+
+unread_feed_room : {M T : Type 0} (mc : Machine M T) (h : ℕ) (f : Feed M) → reads_at mc h f ≡ 0 → has_room_at mc h f ≡ true
+unread_feed_room mc h f none = by_test (nat_lt h f.hub) none
+  where
+    by_test : (b : Bool) → (if b then Part.readers mc h f.part else 0) ≡ 0 → (if b then Part.has_room_for mc h f.part else true) ≡ true
+    by_test true z = unread_room mc h f.part z
+    by_test false z = refl
+
+-- a signal of the hub changes none of them
+pub unread_feeds : {M T : Type 0} (mc : Machine M T) (h : ℕ) (s : Signal T) (fs : List (Feed M)) → feed_readers mc h fs ≡ 0 → AllFeedsHanded mc h s fs fs
+unread_feeds mc h s [] none = tt
+unread_feeds mc h s (f ∷ fs) none = (unread_feed mc h s f (omega (arith, none)), unread_feeds mc h s fs (omega (arith, none)))
+
+-- and none holds it back
+pub unread_rooms : {M T : Type 0} (mc : Machine M T) (h : ℕ) (fs : List (Feed M)) → feed_readers mc h fs ≡ 0 → feeds_have_room mc h fs ≡ true
+unread_rooms mc h [] none = refl
+unread_rooms mc h (f ∷ fs) none = ap (λ b. b && feeds_have_room mc h fs) (unread_feed_room mc h f (omega (arith, none))) ∙ unread_rooms mc h fs (omega (arith, none))
+
+-- the same of the feeds that were lent, of the hub with that number
+pub unread_of_all : {M T : Type 0} (mc : Machine M T) (h n : ℕ) (feeds fs : List (Feed M)) → n ≡ h → fs ≡ feeds → feed_readers mc n fs ≡ 0 → feed_readers mc h feeds ≡ 0
+unread_of_all mc h n feeds fs named same none = sym (ap (λ k. feed_readers mc k feeds) named) ∙ (sym (ap (λ l. feed_readers mc n l) same) ∙ none)

@@ -6,7 +6,7 @@ use Rattle.std.proofs.lemmas.List.{append-nil}
 use Rattle.rsx_sources.specs.Prelude.{Meaning, Stream, signals, ending_signals, Ending, Open, Done, Failed, Signal, Next, Complete, Error, front_of}
 use Rattle.rsx_subscriber.specs.Prelude.{Expr, IsHandedOut, is_room_for, times, IsSentOut, next_out, with_signal, with_signal_at, Part, PartStands, IsTaken}
 use Rattle.rsx_sources.specs.declared.machine.Front.{Front}
-use Rattle.rsx_hub.specs.Hub.{HubState, takes_signal}
+use Rattle.rsx_hub.specs.Hub.{HubState, taken_in, takes_signal}
 use Rattle.rsx_hub.specs.Member.{ending_taken}
 use Rattle.rsx_hub.specs.Waiting.{is_open}
 use Rattle.rsx_pipe.specs.Published as Published
@@ -59,13 +59,13 @@ room_of (Some t) s hub room is can =
 own_hub : (n k : ℕ) → n ≡ k → nat_lt n k ≡ false
 own_hub n k e = grind (arith, nat_tests)
 
-reads_own : {M T : Type 0} (mc : Machine M T) (n : ℕ) (f : Feed M) → n ≡ f.hub → reads_at mc n f ≡ 0
+pub reads_own : {M T : Type 0} (mc : Machine M T) (n : ℕ) (f : Feed M) → n ≡ f.hub → reads_at mc n f ≡ 0
 reads_own mc n f e = ap (λ b. if b then Published.readers mc n f.part else 0) (own_hub n f.hub e)
 
 room_own : {M T : Type 0} (mc : Machine M T) (n : ℕ) (f : Feed M) → n ≡ f.hub → has_room_at mc n f ≡ true
 room_own mc n f e = ap (λ b. if b then Published.has_room_for mc n f.part else true) (own_hub n f.hub e)
 
-total_set : {X : Type 0} (f : X → ℕ) (i : ℕ) (xs : List X) (x y : X) → slice_get xs i ≡ Some x → f y ≡ f x → total f (set xs i y) ≡ total f xs
+pub total_set : {X : Type 0} (f : X → ℕ) (i : ℕ) (xs : List X) (x y : X) → slice_get xs i ≡ Some x → f y ≡ f x → total f (set xs i y) ≡ total f xs
 total_set f i [] x y at same = refl
 total_set f zero (u ∷ us) x y at same = let here : u ≡ x = cc in ap (λ n. n + total f us) (same ∙ ap f (sym here))
 total_set f (suc i) (u ∷ us) x y at same = ap (λ n. f u + n) (total_set f i us x y at same)
@@ -83,7 +83,7 @@ changed_there P i (u ∷ us) [] x at all = absurd all
 changed_there P zero (u ∷ us) (v ∷ vs) x at all = let here : u ≡ x = cc in (v, refl, subst (λ w. P w v) here all.0)
 changed_there P (suc i) (u ∷ us) (v ∷ vs) x at all = changed_there P i us vs x at all.1
 
-set_there : {X : Type 0} (i : ℕ) (xs : List X) (x y : X) → slice_get xs i ≡ Some x → slice_get (set xs i y) i ≡ Some y
+pub set_there : {X : Type 0} (i : ℕ) (xs : List X) (x y : X) → slice_get xs i ≡ Some x → slice_get (set xs i y) i ≡ Some y
 set_there i [] x y at = cc
 set_there zero (u ∷ us) x y at = refl
 set_there (suc i) (u ∷ us) x y at = set_there i us x y at
@@ -146,6 +146,28 @@ was_open hub s v takes k = k.ending ∙ open_taken hub.has_ended hub.ending (and
 
 -- ---- all of it
 
+pub fed_by : {M T : Type 0} (mc : Machine M T) (m : Meaning T) (at : ℕ) (hub hub' : HubState T) (fs gs : List (Feed M)) (f : Feed M) (s : Signal T) (part : Part M) (xs ys : List (Subscription M T)) → slice_get fs at ≡ Some f → IsSentOut mc m f.part s part → takes_signal hub s ≡ true → hub' ≡ taken_in hub s →
+    AllFeedsHanded mc f.hub s (set fs at (record { part = part; hub = f.hub })) gs → AllHanded mc f.hub s xs ys → IsFed mc m at hub hub' fs gs xs ys
+fed_by {M} {T} mc m at hub hub' fs gs f s part xs ys from sent takes taken fed handed =
+    let after : Feed M = record { part = part; hub = f.hub } in
+    record {
+      feed = f;
+      from = from;
+      signal = s;
+      part = part;
+      sent = sent;
+      takes = takes;
+      taken = taken;
+      fed = fed;
+      handed = handed;
+      published = λ v is. (was_open hub s v takes is, subst (λ g. IsTaken g (with_signal s v)) (sym taken) (taken_on hub s v is));
+      stands = λ published v e joins at_hub is stands.
+          let new = sent_stands mc m f s part published e joins v sent at_hub (was_open hub s v takes is) stands in
+          let y = changed_there (IsFeedHanded mc f.hub s) at (set fs at after) gs after (set_there at fs f after from) fed in
+          let not : nat_lt f.hub f.hub ≡ false = own_hub f.hub f.hub refl in
+          (y.0, y.1, subst (λ g. FeedStands mc m (with_signal_at f.hub s published) g e joins) (sym (y.2.same not)) new);
+    }
+
 pub all_fed : {M T : Type 0} (mc : Machine M T) (m : Meaning T) (at n count most : ℕ) (hub hub' : HubState T) (fs gs : List (Feed M)) (f mid : Feed M) (xs ys : List (Subscription M T)) (given left : List (Signal T)) → slice_get fs at ≡ Some f → n ≡ f.hub → count ≡ min (all_readers mc n fs xs) most → count ≢ most →
     can_feed mc m f hub fs xs ≡ true → IsTakenOut mc m f hub count given mid hub' → IsHandedOut (all_readers mc n (set fs at mid) xs) (all_have_room mc n (set fs at mid) xs) given left (λ s. AllFeedsHanded mc n s (set fs at mid) gs × AllHanded mc n s xs ys) → IsFed mc m at hub hub' fs gs xs ys × (left ≡ [])
 all_fed {M} {T} mc m at n count most hub hub' fs gs f mid xs ys given left from named counted fewer can out handed =
@@ -161,22 +183,6 @@ all_fed {M} {T} mc m at n count most hub hub' fs gs f mid xs ys given left from 
     let after : Feed M = record { part = mid.part; hub = f.hub } in
     let mid_is : mid ≡ after = ap (λ h. record { part = mid.part; hub = h }) out.number in
     let fed : AllFeedsHanded mc f.hub s (set fs at after) gs = subst (λ k. AllFeedsHanded mc k s (set fs at after) gs) named (subst (λ g. AllFeedsHanded mc n s (set fs at g) gs) mid_is done.0.0) in (
-      record {
-        feed = f;
-        from = from;
-        signal = s;
-        part = mid.part;
-        sent = out.sent;
-        takes = out.takes;
-        taken = out.taken;
-        fed = fed;
-        handed = subst (λ k. AllHanded mc k s xs ys) named done.0.1;
-        published = λ v is. (was_open hub s v out.takes is, subst (λ g. IsTaken g (with_signal s v)) (sym out.taken) (taken_on hub s v is));
-        stands = λ published v e joins at_hub is stands.
-            let new = sent_stands mc m f s mid.part published e joins v out.sent at_hub (was_open hub s v out.takes is) stands in
-            let y = changed_there (IsFeedHanded mc f.hub s) at (set fs at after) gs after (set_there at fs f after from) fed in
-            let not : nat_lt f.hub f.hub ≡ false = own_hub f.hub f.hub refl in
-            (y.0, y.1, subst (λ g. FeedStands mc m (with_signal_at f.hub s published) g e joins) (sym (y.2.same not)) new);
-      },
+      fed_by mc m at hub hub' fs gs f s mid.part xs ys from out.sent out.takes out.taken fed (subst (λ k. AllHanded mc k s xs ys) named done.0.1),
       done.1,
     )

@@ -67,7 +67,7 @@ row_same {M} {T} b h s (More' e n p below q beside) none =
     by_live under true z = (node_same b h s n (omega (arith, z)), under (omega (arith, z)))
     by_live under false z = (refl, refl)
 
-part_same : {M T : Type 0} (b : Machine M T) (h : ℕ) (s : Signal T) (part : Part M) → readers b h part ≡ 0 → Published.IsHanded b h s part part
+pub part_same : {M T : Type 0} (b : Machine M T) (h : ℕ) (s : Signal T) (part : Part M) → readers b h part ≡ 0 → Published.IsHanded b h s part part
 part_same {M} {T} b h s part none = by_live (is_live part.root.state) refl none
   where
     by_live : (v : Bool) → is_live part.root.state ≡ v → (if v then Tree.readers b h part.tree else 0) ≡ 0 → Published.IsHanded b h s part part

@@ -1,14 +1,18 @@
--- A hub with an emitter takes in all that waits in its inbox at once.
-use Rattle.std.specs.Prelude.{◌≡◌, ℕ, true, List, [], ◌∷◌, length}
+-- A hub takes in all that waits in its inbox at once, or many items of its feed.
+use Rattle.std.specs.Prelude.{◌≡◌, ℕ, ◌+◌, true, List, [], ◌∷◌, length, Some}
 use Rattle.rsx_sources.specs.declared.machine.Machine.{Ghosts as Machine}
 use Rattle.rsx_types.specs.declared.signal.Signal.TheVariants.{Next}
-use Rattle.rsx_hub.specs.Hub.{AllByOne, HubState}
+use Rattle.rsx_sources.specs.Prelude.{Meaning}
+use Rattle.rsx_hub.specs.Hub.{AllByOne, AreTakenIn, HubState}
 use Rattle.rsx_tree.specs.Runs.{Leads}
+use Rattle.rsx_tree.specs.declared.look.NodeMove.{NodeMove}
+use Rattle.rsx_pipe.specs.Fetched.{AreFed}
 use Rattle.rsx_pipe.specs.Taking.{spaces_for}
 use Rattle.rsx_subscriber.specs.declared.subscription.Subscription.{Subscription}
-use Rattle.rsx_graph_state.specs.Moves.{IsAcceptedAt, accepts_at}
+use Rattle.rsx_graph_state.specs.Moves.{IsAcceptedAt, IsFeedMoved, accepts_at, feed_enabled}
 use Rattle.rsx_graph_state.specs.Publishing.{AllHanded, have_room}
-use Rattle.rsx_graph_state.specs.Stands.{Rows}
+use Rattle.rsx_graph_state.specs.Stands.{Rows, feed_of}
+use Rattle.rsx_graph_state.specs.declared.feed.Feed.{Feed}
 
 -- all nodes of these subscriptions that read the hub had room for an item of it, and took it in
 pub record IsItemHandedToAll {M T : Type 0} (mc : Machine M T) (h : ℕ) (old : List (Subscription M T)) (x : T) (new : List (Subscription M T)) : Type 0 where
@@ -31,3 +35,24 @@ spaces_of_all mc spaces h most (x ∷ xs) = spaces_of_all mc spaces h (spaces_fo
 pub record IsAccept {M T : Type 0} (mc : Machine M T) (h : ℕ) (old new : Rows M T) : Type 0 where
   pub enabled : accepts_at mc old h ≡ true
   pub effect : IsAcceptedAt mc h old new
+
+-- ---- many items of a feed
+
+-- a move of the feed of the hub with this number that was enabled
+pub record IsFeedMove {M T : Type 0} (mc : Machine M T) (m : Meaning T) (h : ℕ) (old new : Rows M T) : Type 0 where
+  pub feed : Feed M
+  pub named : feed_of old.feeds h ≡ Some feed
+  pub step : NodeMove
+  pub enabled : feed_enabled mc m old h step ≡ true
+  pub effect : IsFeedMoved mc m step h old new
+
+-- by so many moves of the feed some items went into the hub one after the other, and each was handed to all of these nodes
+pub record AreSent {M T : Type 0} (mc : Machine M T) (m : Meaning T) (h n : ℕ) (hub hub' : HubState T) (old new : Feed M) (subs subs' : List (Subscription M T)) : Type 0 where
+  pub items : List T
+  pub budget : ℕ
+  pub left : ℕ
+  pub count : n + left ≡ budget
+  pub fed : AreFed mc m budget old.part items left new.part
+  pub number : new.hub ≡ old.hub
+  pub taken : AreTakenIn hub items hub'
+  pub handed : Leads (IsItemHandedToAll mc h) subs items subs'

@@ -1,6 +1,6 @@
 //! Taking all that waits in the inbox of a hub in at once, and handing it to all nodes that read the hub.
 
-ghost use Rattle.std.specs.Prelude.{◌≡◌, ◌<◌, ◌≤◌, [], Some, None, IfSome, List, OnOk, OnErr, length, reverse};
+ghost use Rattle.std.specs.Prelude.{◌≡◌, ◌<◌, ◌≤◌, ℕ, [], false, Some, None, IfSome, List, OnOk, OnErr, length, reverse};
 ghost use Rattle.rsx_hub.specs.Hub.{all_accepted, replayed};
 ghost use Rattle.rsx_rooted.specs.Taking.{blocks};
 ghost use Rattle.rsx_tree.specs.Runs.{Leads, LeadsBy};
@@ -11,7 +11,7 @@ ghost use Rattle.rsx_graph_state.specs.Publishing as counts;
 ghost use Rattle.rsx_graph_state.specs.Stands as stands;
 ghost use Rattle.rsx_graph_state.specs.SubscriptionSet.{NoneReads};
 
-use crate::publishing::with_room;
+use crate::publishing::{feed_readers_up_to, with_room};
 use crate::{Feed, Skipped};
 use rsx_hub::Hub;
 use rsx_pipe::Nodes;
@@ -26,7 +26,7 @@ const FEWEST_AT_ONCE: u64 = 2;
 /// A hub that is there and has no feed takes in all items that wait in its inbox, and each node of a subscription that reads the hub
 /// gets them. That is what so many calls of [`accept_unfed`](crate::accept_unfed) do. It answers how many items those are: none,
 /// where it doesn't do so at once. It does not where there are more than `most`, where a node has no room for all of them, where
-/// the hub keeps items for new members, where some hub has a feed, and where memory was wanting.
+/// the hub keeps items for new members, where a feed reads it, and where memory was wanting.
 ///
 /// It looks at no subscription that is skipped. The list is empty before and after; used again, it takes no memory.
 pub fn accept_all<N: Nodes<Item = O::Item> + Batches, O: Ops>(
@@ -50,7 +50,7 @@ pub fn accept_all<N: Nodes<Item = O::Item> + Batches, O: Ops>(
     ensures most { result ≤ most }
     ensures empty { items.new.items ≡ [] }
 {
-    if feeds.len() > 0 {
+    if is_read_by_feeds(u64::from(hub.0), feeds) {
         return 0;
     }
     take_in_all(
@@ -63,6 +63,16 @@ pub fn accept_all<N: Nodes<Item = O::Item> + Batches, O: Ops>(
         items,
         most,
     )
+}
+
+/// Whether a node of these feeds reads the hub.
+pub(crate) fn is_read_by_feeds<N: Nodes<Item = T>, T: Drop>(
+    number: u64,
+    feeds: &[Feed<N>],
+) -> bool
+    ensures { result ≡ false → counts.feed_readers N.Machine number feeds.now ≡ 0 }
+{
+    feed_readers_up_to(number, feeds, 1) > 0
 }
 
 /// The same of this hub.
@@ -99,7 +109,7 @@ fn take_in_all<N: Nodes<Item = O::Item> + Batches, O: Ops>(
 }
 
 /// How many nodes of these subscriptions read the hub, where there are some, and each of them has room for so many items at once.
-fn ready_readers<N: Nodes<Item = T> + Batches, T: Drop>(
+pub(crate) fn ready_readers<N: Nodes<Item = T> + Batches, T: Drop>(
     number: u64,
     subscriptions: &[Subscription<N, T>],
     skipped: &Skipped,
@@ -123,7 +133,7 @@ fn ready_readers<N: Nodes<Item = T> + Batches, T: Drop>(
 
 /// The least of the numbers of items for which the nodes of these subscriptions that read the hub have room at once, but at most
 /// `most`.
-fn spaces_of_all<N: Nodes<Item = T> + Batches, T: Drop>(
+pub(crate) fn spaces_of_all<N: Nodes<Item = T> + Batches, T: Drop>(
     number: u64,
     subscriptions: &[Subscription<N, T>],
     skipped: &Skipped,
@@ -166,7 +176,7 @@ fn lay_out<O: Ops>(
 
 /// Hands so many items of the hub to each node of these subscriptions that reads it. They are all that stands in the list, the first of
 /// them last, once for each of these nodes. Each of the nodes has room for them.
-fn hand_all<N: Nodes<Item = T> + Batches, T: Drop>(
+pub(crate) fn hand_all<N: Nodes<Item = T> + Batches, T: Drop>(
     number: u64,
     subscriptions: &mut [Subscription<N, T>],
     skipped: &Skipped,
@@ -174,7 +184,7 @@ fn hand_all<N: Nodes<Item = T> + Batches, T: Drop>(
     count: u64,
 )
     requires unread { NoneReads N.Machine number skipped.now subscriptions.old }
-    ensures { (xs : List T) → items.old.items ≡ blocks (counts.readers N.Machine number subscriptions.old) (reverse xs) → length xs ≡ count → count ≤ spec.spaces_of_all N.Machine N.spaces_of number count subscriptions.old →
+    ensures { (most : ℕ) (xs : List T) → items.old.items ≡ blocks (counts.readers N.Machine number subscriptions.old) (reverse xs) → length xs ≡ count → count ≤ spec.spaces_of_all N.Machine N.spaces_of number most subscriptions.old →
         Leads (IsItemHandedToAll N.Machine number) subscriptions.old xs subscriptions.new × (items.new.items ≡ []) }
 {
     let mut to = skipped.next(0);

@@ -38,6 +38,7 @@
 //! - [`at_once`]: [`accept_all`], by which it takes in all that waits there at once.
 //! - [`feed_moves`]: [`make_in_feed`], a move of a hub's feed.
 //! - [`feeds`]: [`place_of`], the feed of a hub among all.
+//! - [`feeding_many`]: [`send_many`], by which a feed sends many items into its hub at once.
 //! - [`law`]: [`headline`], what is proved of such graphs, as the contract of one function.
 //!
 //! The hubs, the feeds and the subscriptions stand in rows, the feeds in any order: each names its hub. The definitions stand in
@@ -48,6 +49,7 @@ pub mod accepting;
 pub mod at_once;
 pub mod feed;
 pub mod feed_moves;
+pub mod feeding_many;
 pub mod feeds;
 pub mod law;
 pub mod publishing;
@@ -61,6 +63,7 @@ pub use accepting::{accept, accept_unfed};
 pub use at_once::accept_all;
 pub use feed::{Feed, HUB_REGION};
 pub use feed_moves::{make_in_feed, send_from_feed, work_in_feed};
+pub use feeding_many::{may_send_many, send_many};
 pub use feeds::place_of;
 pub use law::headline;
 pub use publishing::can_accept;

@@ -129,6 +129,7 @@ fn all_with_room<N: Nodes<Item = T>, T: Drop>(
 }
 
 /// The same of the nodes of these subscriptions alone.
+#[inline(always)]
 pub(crate) fn with_room<N: Nodes<Item = T>, T: Drop>(
     number: u64,
     subscriptions: &[Subscription<N, T>],
@@ -194,7 +195,7 @@ fn all_readers_up_to<N: Nodes<Item = T>, T: Drop>(
 }
 
 /// How many nodes of these feeds read the hub, but at most `most`.
-fn feed_readers_up_to<N: Nodes<Item = T>, T: Drop>(number: u64, feeds: &[Feed<N>], most: u32) -> u32
+pub(crate) fn feed_readers_up_to<N: Nodes<Item = T>, T: Drop>(number: u64, feeds: &[Feed<N>], most: u32) -> u32
     ensures { result ≡ min (feed_readers N.Machine number feeds.now) most }
 {
     let mut found = 0;

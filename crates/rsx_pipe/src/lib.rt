@@ -10,6 +10,7 @@
 //! - [`many`]: one move, made many times in one call.
 //! - [`published`]: what a hub published is handed to the nodes of a part that read it.
 //! - [`root`]: the edge from the root of a part.
+//! - [`steps`]: whether nodes make steps of their own.
 //! - [`taking`]: several items of a hub are handed to those nodes at once.
 //!
 //! The definitions stand in `specs/`, apart from the code: `Part` (what a part stands for, which of its moves are enabled,
@@ -28,6 +29,7 @@ pub mod many;
 pub mod part;
 pub mod published;
 pub mod root;
+pub mod steps;
 pub mod taking;
 
 pub use cutting::CutOff;

@@ -1,6 +1,7 @@
 //! A part of a graph: one tree of nodes with its edges.
 
 use crate::ahead::{make_ahead, waiting};
+use crate::steps::never_steps;
 pub use rsx_rooted::Pumped;
 use rsx_rooted::{Batch, Batches, Nodes, Noted, Rooted, Sink};
 use rsx_sources::NotMade;
@@ -263,6 +264,12 @@ impl<N: Nodes + Batches> Part<N> {
         ensures no { result ≡ false → (self.new ≡ self.old) × (left.new ≡ left.old) }
     {
         self.rooted.fetch_batch(alloc, ops, most, left, batch)
+    }
+
+    /// Whether all nodes of the part say that they never pick an input nor make a row, so that they choose nothing. The answer promises
+    /// nothing.
+    pub fn never_steps(&self) -> bool {
+        never_steps(&self.rooted.tree)
     }
 
     /// The first half of [`Part::fetch_batch`]: makes the batch of items, and leaves the part as it is. Answers how much of the budget

@@ -1,13 +1,10 @@
-use Rattle.std.proofs.Common.{◌≡◌, ◌≤◌, ◌∙◌, List, [], ◌∷◌, arith, length, refl, sym}
+use Rattle.std.proofs.Common.{◌∙◌, sym}
 use Rattle.std.proofs.lemmas.List.{with_items_is}
 use Rattle.rsx_graph_state.proofs.Accepts.{all_accepts, handed_as_many}
 use Rattle.rsx_graph_state.proofs.Calls.{lent_back}
 use Rattle.rsx_graph_state.proofs.Graphs.{found}
+use Rattle.rsx_graph_state.proofs.OneFeed.{unread_of_all}
 use Rattle.rsx_graph_state.proofs.at_once.accept_all.Goals as goal
-
-empty_list : {A : Type 0} (xs : List A) → length xs ≤ 0 → xs ≡ []
-empty_list [] l = refl
-empty_list (x ∷ xs) l = absurd (omega (arith, l))
 
 pub returns-clause-subscriptions : goal.returns-clause-subscriptions
 returns-clause-subscriptions g c =
@@ -17,10 +14,8 @@ returns-clause-subscriptions g c =
 pub returns-clause-made : goal.returns-clause-made
 returns-clause-made g c =
     let there = found c.args.hubs.now.items c.args.hub.0 c.index_mut.result.now c.requires.there (sym c.index_mut.ensures.value) in
-    let many = c.len.ensures in
-    let unfed = c.if-len-gt0.false in
-    let none = empty_list c.args.feeds.now.items (omega (arith, many, unfed)) in
+    let none = unread_of_all g.N.Machine c.args.hub.0 c.from.result c.args.feeds.now.items c.deref.result.now c.from.ensures c.deref.ensures.value (c.is_read_by_feeds.ensures c.if-is_read_by_feeds.false) in
     let k = c.take_in_all.ensures.made in
     let all = handed_as_many g.N.Machine c.args.hub.0 k.items c.deref_mut.result.now c.take_in_all.new.subscriptions k.handed ∙ c.deref_mut.ensures.len in
     rw (with_items_is c.args.subscriptions.now c.take_in_all.new.subscriptions all)
-    (all_accepts g.N.Machine c.args.hub.0 c.take_in_all.result c.args.hubs.now.items c.index_mut.result.now c.take_in_all.new.hub c.args.feeds.now.items c.args.subscriptions.now.items c.deref_mut.result.now c.take_in_all.new.subscriptions there none c.deref_mut.ensures.value k)
+    (all_accepts g.N.Machine c.args.hub.0 c.take_in_all.result c.args.hubs.now.items c.index_mut.result.now c.take_in_all.new.hub c.args.feeds.now.items c.args.subscriptions.now.items c.deref_mut.result.now c.take_in_all.new.subscriptions there c.requires.unfed none c.deref_mut.ensures.value k)

@@ -5,7 +5,7 @@ use Rattle.rsx_graph_state.proofs.at_once.hand_all.Goals as goal
 
 pub walk-init : goal.walk-init
 unfolding IsHandedOn
-walk-init g c = λ xs all len fits.
+walk-init g c = λ most xs all len fits.
     let h = c.args.number in
     let subs = c.args.subscriptions.now in
     let n = c.next-to.result in
@@ -14,7 +14,7 @@ walk-init g c = λ xs all len fits.
 
 pub walk-preserved : goal.walk-preserved
 unfolding IsHandedOn
-walk-preserved g c = λ xs all len fits.
+walk-preserved g c = λ most xs all len fits.
     let h = c.args.number in
     let subs = c.args.subscriptions.now in
     let ys = c.walk.subscriptions in
@@ -22,13 +22,13 @@ walk-preserved g c = λ xs all len fits.
     let n = c.next-to-in-walk.result in
     let x = c.index-subscriptions-to.result in
     let y = c.hand_many.new.self in
-    let begun = c.walk.invariant xs all len fits in
+    let begun = c.walk.invariant most xs all len fits in
     let count = begun.far.count in
     let less = c.walk-test.true in
     let within : at < length subs = omega (arith, count, less) in
     let none = unread_between g.N.Machine h (at + 1) n c.args.skipped.now subs c.requires.unread c.next-to-in-walk.ensures.passed in
     far_skipped g.N.Machine h xs (at + 1) n subs (set ys at y) c.hand_many.new.items.items c.next-to-in-walk.ensures.above none (readers_past g.N.Machine h (at + 1) n subs c.next-to-in-walk.ensures.above none)
-    (far_handed g.N.Machine g.N.Batches.spaces_of h c.args.count c.args.count xs at subs ys x y c.walk.items.items c.hand_many.new.items.items within len fits c.hand_many.ensures begun)
+    (far_handed g.N.Machine g.N.Batches.spaces_of h c.args.count most xs at subs ys x y c.walk.items.items c.hand_many.new.items.items within len fits c.hand_many.ensures begun)
 
 pub walk-smaller : goal.walk-smaller
 walk-smaller g c =
@@ -39,8 +39,8 @@ walk-smaller g c =
 
 pub returns : goal.returns
 unfolding IsHandedOn
-returns g c xs all len fits =
-    let begun = c.walk.invariant xs all len fits in
+returns g c most xs all len fits =
+    let begun = c.walk.invariant most xs all len fits in
     let count = begun.far.count in
     let past = c.walk-test.false in
     far_through g.N.Machine c.args.number xs c.walk.to c.args.subscriptions.now c.walk.subscriptions c.walk.items.items (omega (arith, count, past)) begun
