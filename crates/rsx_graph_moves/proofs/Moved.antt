@@ -1,11 +1,12 @@
 -- One move of a hub, as a move of the graph.
 use Rattle.rsx_sources.specs.declared.machine.Machine.{Ghosts as Machine}
 use Rattle.rsx_rooted.specs.declared.nodes.Nodes.{Ghosts as Nodes}
-use Rattle.std.proofs.Common.{◌≡◌, ℕ, ◌<◌, ◌⊎◌, inl, inr, Bool, true, false, List, length, Some, None, refl, sym, ◌∙◌, subst, arith}
+use Rattle.std.proofs.Common.{◌≡◌, ℕ, zero, suc, ◌<◌, ◌⊎◌, inl, inr, Bool, true, false, List, length, Some, None, refl, sym, ◌∙◌, subst, arith}
 use Rattle.rsx_sources.specs.Prelude.{Meaning, HubId, Accept, Signal}
 use Rattle.rsx_sources.specs.Steps.{IsNotMade}
 use Rattle.rsx_sources.specs.declared.machine.NotMade.{NotMade}
 use Rattle.rsx_sources.specs.declared.machine.NotMade.TheVariants.{NotEnabled, NoMemory}
+use Rattle.rsx_tree.specs.Runs.{LeadsBy}
 use Rattle.rsx_pipe.specs.Part as Part
 use Rattle.rsx_subscriber.specs.Prelude.{IsQuietInside, inside_enabled, NodeMove, Send as NodeSend}
 use Rattle.rsx_graph_state.specs.Moves.{IsWorkedAt}
@@ -16,7 +17,7 @@ use Rattle.rsx_graph_state.proofs.Kept.{accepted_stands, feed_moved_stands}
 use Rattle.rsx_graph_state.proofs.Named.{feed_named}
 use Rattle.rsx_graph_state.proofs.Places.{feed_placed, placed_feed}
 use Rattle.rsx_graph_moves.specs.Moves.{name_in, sent}
-use Rattle.rsx_graph_moves.specs.Pumped.{IsHubMoveRefusal, IsHubMoved, IsHubQuiet}
+use Rattle.rsx_graph_moves.specs.Pumped.{IsHubMoveRefusal, IsHubMoved, IsHubMovedOn, IsHubQuiet}
 use Rattle.rsx_graph_moves.proofs.Driving.{made_one}
 use Rattle.rsx_graph_moves.proofs.Named.{inside_of_feed, name_enabled, name_in_tree, name_inside, named_answer, named_happened, named_moved, not_out, not_quiet_accept, not_quiet_feed, sent_quiet}
 
@@ -39,8 +40,9 @@ subs_moved {M} {T} mc m step true h old new k =
     inr (e.signal, subst P named e.handed)
 subs_moved mc m step false h old new k = inl k.subs
 
-feed_moved : {M T : Type 0} (mc : Machine M T) (kd : Nodes M T) (m : Meaning T) (h : HubId) (f : Feed M) (step : NodeMove) (old new : Rows M T) → feed_of old.feeds h.0 ≡ Some f → Part.IsNumbered step → feed_enabled mc m old h.0 step ≡ true → IsFeedMoved mc m step h.0 old new → IsHubMoved mc kd m h.0 old new
-feed_moved {M} {T} mc kd m h f step old new named small can k =
+-- an enabled move of a feed
+pub feed_moved_on : {M T : Type 0} (mc : Machine M T) (kd : Nodes M T) (m : Meaning T) (h : HubId) (f : Feed M) (step : NodeMove) (old new : Rows M T) → feed_of old.feeds h.0 ≡ Some f → feed_enabled mc m old h.0 step ≡ true → IsFeedMoved mc m step h.0 old new → IsHubMovedOn mc kd m h.0 old new
+feed_moved_on {M} {T} mc kd m h f step old new named can k =
     let mv = name_in kd f h step in
     let tree = name_in_tree kd f h step in
     let is = name_inside kd old.feeds h f step named in
@@ -49,9 +51,22 @@ feed_moved {M} {T} mc kd m h f step old new named small can k =
       made = record { move = mv; delivered = None; fed = sent mc kd m old mv };
       all = made_one mc kd m mv None old new (name_enabled mc kd m old h f step named ∙ can) (named_moved mc kd m old new h step mv tree is k) (named_answer h mv None tree refl) (λ x s. subst P (sym (named_happened mc kd m old h step mv x tree is)) (feed_moved_stands mc m step h.0 old new x k s));
       silent = refl;
-      awake = not_quiet_feed mc m old h.0 step small can;
       subs = subs_moved mc m step (is_out step) h.0 old new k;
     }
+
+feed_moved : {M T : Type 0} (mc : Machine M T) (kd : Nodes M T) (m : Meaning T) (h : HubId) (f : Feed M) (step : NodeMove) (old new : Rows M T) → feed_of old.feeds h.0 ≡ Some f → Part.IsNumbered step → feed_enabled mc m old h.0 step ≡ true → IsFeedMoved mc m step h.0 old new → IsHubMoved mc kd m h.0 old new
+feed_moved mc kd m h f step old new named small can k =
+    let on = feed_moved_on mc kd m h f step old new named can k in
+    record { made = on.made; all = on.all; silent = on.silent; awake = not_quiet_feed mc m old h.0 step small can; subs = on.subs }
+
+-- a move of a hub that was found enabled is some move of it
+pub moved_on : {M T : Type 0} (mc : Machine M T) (kd : Nodes M T) (m : Meaning T) (h : ℕ) (old new : Rows M T) → IsHubMoved mc kd m h old new → IsHubMovedOn mc kd m h old new
+moved_on mc kd m h old new k = record { made = k.made; all = k.all; silent = k.silent; subs = k.subs }
+
+-- the first of several was enabled
+pub awake_first : {M T : Type 0} (mc : Machine M T) (kd : Nodes M T) (m : Meaning T) (h n : ℕ) (old new : Rows M T) → LeadsBy (IsHubMoved mc kd m h) n old new → 0 < n → IsHubQuiet mc m old h → ⊥
+awake_first mc kd m h zero old new moves some quiet = absurd (omega (arith, some))
+awake_first mc kd m h (suc n) old new moves some quiet = moves.1.awake quiet
 
 -- inside the feed
 pub feed_worked : {M T : Type 0} (mc : Machine M T) (kd : Nodes M T) (m : Meaning T) (h : HubId) (f : Feed M) (step : NodeMove) (hubs : List (HubState T)) (feeds news : List (Feed M)) (subs : List (Subscription M T)) → h.0 < length hubs → feed_of feeds h.0 ≡ Some f → Part.IsNumbered step × (inside_enabled mc m f.part step ≡ true) → IsWorkedAt mc m step h.0 feeds news → IsHubMoved mc kd m h.0 (rows_of hubs feeds subs) (rows_of hubs news subs)

@@ -92,6 +92,14 @@ pub record IsHubQuiet {M T : Type 0} (mc : Machine M T) (m : Meaning T) (g : Row
 abbrev pub AreHubsQuiet : {M T : Type 0} → Machine M T → Meaning T → Rows M T → ℕ → Type 0
 AreHubsQuiet mc m g n = (h : ℕ) → h < n → IsHubQuiet mc m g h
 
+-- some move of the hub with this number was made, which delivered nothing; each subscription is as it was, or all got the same signal of
+-- the hub
+pub record IsHubMovedOn {M T : Type 0} (mc : Machine M T) (kd : Nodes M T) (m : Meaning T) (h : ℕ) (old new : Rows M T) : Type 0 where
+  pub made : Made T
+  pub all : AreMade mc kd m old (made ∷ []) new
+  pub silent : made.delivered ≡ None
+  pub subs : (new.subs ≡ old.subs) ⊎ ((s : Signal T) × AllHanded mc h s old.subs new.subs)
+
 -- one move of the hub with this number was made, which delivered nothing: of its feed, or by which it took in what its emitter
 -- published. So one was enabled; and each subscription is as it was, or all got the same signal of the hub
 pub record IsHubMoved {M T : Type 0} (mc : Machine M T) (kd : Nodes M T) (m : Meaning T) (h : ℕ) (old new : Rows M T) : Type 0 where

@@ -6,7 +6,7 @@ ghost use Rattle.rsx_graph_state.specs.Stands as spec;
 ghost use Rattle.rsx_graph_state.specs.SubscriptionSet.{IsSkipped, NoneReads};
 ghost use Rattle.rsx_tree.specs.Runs.{LeadsBy};
 ghost use Rattle.rsx_types.specs.Meaning.{Meaning};
-ghost use Rattle.rsx_graph_moves.specs.Pumped.{AreHubsQuiet, HasServed, HaveServed, IsAnyAwake, IsHubMoveRefusal, IsHubMoved, IsHubQuiet};
+ghost use Rattle.rsx_graph_moves.specs.Pumped.{AreHubsQuiet, HasServed, HaveServed, IsAnyAwake, IsHubMoveRefusal, IsHubMoved, IsHubMovedOn, IsHubQuiet};
 ghost use Rattle.rsx_rooted.specs.declared.rooted.Pumped.TheVariants as DrivenOf;
 ghost use Rattle.rsx_graph_moves.specs.IdleSet.{IsIn};
 ghost use Rattle.rsx_graph_moves.specs.Resting.{AreIdle};
@@ -16,8 +16,8 @@ ghost use Rattle.rsx_subscriber.specs.declared.subscription.Subscription.{Subscr
 use crate::IdleSet;
 use crate::waking::look_for_readers;
 use rsx_graph_state::{
-    Feed, Refusal, Skipped, accept_all, accept_unfed, can_accept, can_feed, place_of,
-    send_from_feed, work_in_feed,
+    Feed, Refusal, Skipped, accept_all, accept_unfed, can_accept, can_feed, may_send_many,
+    place_of, send_from_feed, send_many, work_in_feed,
 };
 use rsx_hub::Hub;
 use rsx_pipe::{Nodes, Pumped as Driven};
@@ -26,6 +26,9 @@ use rsx_sources::NotMade;
 use rsx_subscriber::Subscription;
 use rsx_types::{HubId, Ops, Signal};
 use std::alloc::Global;
+
+/// How many tries to send many items of a feed at once may fail one after the other.
+const MOST_MISSES: u32 = 16;
 
 /// All hubs take in what they can, one after the other, in at most `budget` moves; the moves of a hub's feed are among them. The
 /// readers of each that makes a move are taken out of `idle`. The list for what is handed to them is empty before and after.
@@ -76,6 +79,8 @@ pub(crate) fn serve_all<N: Nodes<Item = O::Item> + Batches, O: Ops>(
 /// A hub takes in what it can, in at most `budget` moves; the moves of its feed are among them. Where it makes one, those subscriptions
 /// are taken out of `idle` of which some node reads the hub, since that may wake them. Where its inbox or its feed has nothing for it, it
 /// looks at no subscription.
+// Not inlined, so that a pump of a graph without hubs stays short.
+#[inline(never)]
 fn serve<N: Nodes<Item = O::Item> + Batches, O: Ops>(
     alloc: Global,
     ops: &O,
@@ -189,6 +194,7 @@ fn take_in_all<N: Nodes<Item = O::Item> + Batches, O: Ops>(
         feeds,
         subscriptions,
         skipped,
+        signals,
         hub,
         at,
         budget,
@@ -216,42 +222,185 @@ fn take_in_all<N: Nodes<Item = O::Item> + Batches, O: Ops>(
     }
 }
 
-/// A hub with an emitter takes in all that waits in its inbox at once, where it can, in at most `budget` moves, and without a look at those
-/// that are skipped. It answers how many moves it made.
+/// A hub takes in many items at once, where it can, in at most `budget` moves, and without a look at those that are skipped: all that
+/// waits in its inbox, or what its feed gives. It answers how many moves it made. The list for what is handed to its readers is empty
+/// before and after.
 fn take_in_many<N: Nodes<Item = O::Item> + Batches, O: Ops>(
     alloc: Global,
     ops: &O,
     hubs: &mut Vec<Hub<O::Item>>,
-    feeds: &Vec<Feed<N>>,
+    feeds: &mut Vec<Feed<N>>,
     subscriptions: &mut Vec<Subscription<N, O::Item>>,
     skipped: &Skipped,
+    signals: &mut Vec<Signal<O::Item>>,
     hub: HubId,
     at: Option<usize>,
     budget: u32,
 ) -> u32
     requires there { hub.0 < length hubs.old.items }
-    requires place { spec.place_of feeds.now.items hub.0 ≡ at }
+    requires place { spec.place_of feeds.old.items hub.0 ≡ at }
     requires unread { NoneReads N.Machine hub.0 skipped.now subscriptions.old.items }
+    requires empty { signals.old.items ≡ [] }
     ensures hubs { length hubs.new.items ≡ length hubs.old.items }
+    ensures feeds { length feeds.new.items ≡ length feeds.old.items }
     ensures subscriptions { length subscriptions.new.items ≡ length subscriptions.old.items }
-    ensures made { LeadsBy (IsHubMoved N.Machine N.Nodes.own (O.meaning ops.now) hub.0) result (rows_of hubs.old.items feeds.now.items subscriptions.old.items) (rows_of hubs.new.items feeds.now.items subscriptions.new.items) }
+    ensures made { LeadsBy (IsHubMovedOn N.Machine N.Nodes.own (O.meaning ops.now) hub.0) result (rows_of hubs.old.items feeds.old.items subscriptions.old.items) (rows_of hubs.new.items feeds.new.items subscriptions.new.items) }
+    ensures awake { 0 < result → IsHubQuiet N.Machine (O.meaning ops.now) (rows_of hubs.old.items feeds.old.items subscriptions.old.items) hub.0 → ⊥ }
     ensures most { result ≤ budget }
+    ensures empty { signals.new.items ≡ [] }
 {
-    if let Some(_) = at {
+    match at {
+        Some(at) => feed_many(
+            alloc,
+            ops,
+            hubs,
+            feeds,
+            subscriptions,
+            skipped,
+            signals,
+            hub,
+            at,
+            budget,
+        ),
+        None => {
+            let mut items = Vec::new(alloc);
+            accept_all(
+                alloc,
+                ops,
+                hubs,
+                feeds,
+                subscriptions,
+                hub,
+                skipped,
+                &mut items,
+                budget,
+            )
+        }
+    }
+}
+
+/// The feed with the index `at` sends what it can into its hub, where it is worth to send many items at once. Between two tries to do so
+/// it makes a single move, since an item that waits on the way has to go first. It answers how many moves it made.
+fn feed_many<N: Nodes<Item = O::Item> + Batches, O: Ops>(
+    alloc: Global,
+    ops: &O,
+    hubs: &mut Vec<Hub<O::Item>>,
+    feeds: &mut Vec<Feed<N>>,
+    subscriptions: &mut Vec<Subscription<N, O::Item>>,
+    skipped: &Skipped,
+    signals: &mut Vec<Signal<O::Item>>,
+    hub: HubId,
+    at: usize,
+    budget: u32,
+) -> u32
+    requires there { hub.0 < length hubs.old.items }
+    requires place { spec.place_of feeds.old.items hub.0 ≡ Some at }
+    requires unread { NoneReads N.Machine hub.0 skipped.now subscriptions.old.items }
+    requires empty { signals.old.items ≡ [] }
+    ensures hubs { length hubs.new.items ≡ length hubs.old.items }
+    ensures feeds { length feeds.new.items ≡ length feeds.old.items }
+    ensures subscriptions { length subscriptions.new.items ≡ length subscriptions.old.items }
+    ensures made { LeadsBy (IsHubMovedOn N.Machine N.Nodes.own (O.meaning ops.now) hub.0) result (rows_of hubs.old.items feeds.old.items subscriptions.old.items) (rows_of hubs.new.items feeds.new.items subscriptions.new.items) }
+    ensures awake { 0 < result → IsHubQuiet N.Machine (O.meaning ops.now) (rows_of hubs.old.items feeds.old.items subscriptions.old.items) hub.0 → ⊥ }
+    ensures most { result ≤ budget }
+    ensures empty { signals.new.items ≡ [] }
+{
+    let state = &hubs[hub.0 as usize];
+    if !may_send_many(state, hub.0, feeds, at, subscriptions, skipped) {
         return 0;
     }
-    let mut items = Vec::new(alloc);
-    accept_all(
-        alloc,
-        ops,
-        hubs,
-        feeds,
-        subscriptions,
-        hub,
-        skipped,
-        &mut items,
-        budget,
-    )
+    let mut made = 0;
+    let mut misses = 0;
+    'rounds: while made < budget && misses < MOST_MISSES {
+        match send_or_work(
+            alloc,
+            ops,
+            hubs,
+            feeds,
+            subscriptions,
+            skipped,
+            signals,
+            hub,
+            at,
+        ) {
+            Ok(()) => made += 1,
+            Err(_) => return made,
+        }
+        let many = send_many(
+            alloc,
+            ops,
+            hubs,
+            feeds,
+            subscriptions,
+            hub,
+            at,
+            skipped,
+            budget - made,
+        );
+        made += many;
+        misses = misses_after(many, misses);
+    }
+    made
+}
+
+/// How many tries failed one after the other, where the last one made so many moves. Behind one that made some, only one more may fail.
+fn misses_after(moves: u32, before: u32) -> u32 {
+    match moves {
+        0 => before.saturating_add(1),
+        _ => MOST_MISSES - 1,
+    }
+}
+
+/// Makes a move of the feed with the index `at`: the Send by which its next signal goes into the hub, or where its root edge carries none
+/// the first enabled move inside it.
+///
+/// # Errors
+/// [`NotMade::NotEnabled`] where that isn't enabled, and [`NotMade::NoMemory`] where a growth was refused; nothing changed.
+fn send_or_work<N: Nodes<Item = O::Item>, O: Ops>(
+    alloc: Global,
+    ops: &O,
+    hubs: &mut Vec<Hub<O::Item>>,
+    feeds: &mut Vec<Feed<N>>,
+    subscriptions: &mut Vec<Subscription<N, O::Item>>,
+    skipped: &Skipped,
+    signals: &mut Vec<Signal<O::Item>>,
+    hub: HubId,
+    at: usize,
+) -> Result<(), NotMade>
+    requires there { hub.0 < length hubs.old.items }
+    requires place { spec.place_of feeds.old.items hub.0 ≡ Some at }
+    requires unread { NoneReads N.Machine hub.0 skipped.now subscriptions.old.items }
+    requires empty { signals.old.items ≡ [] }
+    ensures hubs { length hubs.new.items ≡ length hubs.old.items }
+    ensures feeds { length feeds.new.items ≡ length feeds.old.items }
+    ensures subscriptions { length subscriptions.new.items ≡ length subscriptions.old.items }
+    ensures made { OnOk result (IsHubMoved N.Machine N.Nodes.own (O.meaning ops.now) hub.0 (rows_of hubs.old.items feeds.old.items subscriptions.old.items) (rows_of hubs.new.items feeds.new.items subscriptions.new.items)) }
+    ensures same { OnErr result ((hubs.new.items ≡ hubs.old.items) × (feeds.new.items ≡ feeds.old.items) × (subscriptions.new.items ≡ subscriptions.old.items)) }
+    ensures empty { signals.new.items ≡ [] }
+{
+    if let Some(_) = feeds[at].part.next_out() {
+        return match send_from_feed(
+            alloc,
+            ops,
+            hubs,
+            feeds,
+            subscriptions,
+            hub,
+            at,
+            skipped,
+            signals,
+        ) {
+            Ok(()) => Ok(()),
+            Err(why) => Err(why),
+        };
+    }
+    let Some(step) = feeds[at].first_work() else {
+        return Err(NotMade::NotEnabled);
+    };
+    match work_in_feed(alloc, ops, feeds, hub, at, step) {
+        Ok(()) => Ok(()),
+        Err(why) => Err(why),
+    }
 }
 
 /// Makes the first enabled move of a hub, without a look at those that are skipped. Of a hub with an emitter that takes the next signal of

@@ -12,18 +12,18 @@ pub loop-made-init : goal.loop-made-init
 loop-made-init g c =
     let m = g.O.Ops.meaning c.args.ops.now in
     let first = rows_of c.args.hubs.now.items c.args.feeds.now.items c.args.subscriptions.now.items in
-    let now = rows_of c.take_in_many-taken.new.hubs.items c.args.feeds.now.items c.take_in_many-taken.new.subscriptions.items in
+    let now = rows_of c.take_in_many-taken.new.hubs.items c.take_in_many-taken.new.feeds.items c.take_in_many-taken.new.subscriptions.items in
     let k = many_taken_in g.N.Machine g.N.Nodes m c.args.hub.0 c.args.skipped.now first now c.take_in_many-taken.result c.requires.unread c.take_in_many-taken.ensures.made in
     record {
       hubs = c.take_in_many-taken.ensures.hubs;
-      feeds = refl;
+      feeds = c.take_in_many-taken.ensures.feeds;
       subscriptions = c.take_in_many-taken.ensures.subscriptions;
       so_far = k.so_far;
-      first = k.could;
+      first = c.take_in_many-taken.ensures.awake;
       place = k.place ∙ c.requires.place;
       unread = k.unread;
       stay = k.stay;
-      empty = c.requires.empty;
+      empty = c.take_in_many-taken.ensures.empty;
     }
 
 pub loop-made-preserved : goal.loop-made-preserved
