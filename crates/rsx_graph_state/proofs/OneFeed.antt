@@ -1,16 +1,21 @@
 -- Feeds to whose nodes a signal of a hub is handed.
 use Rattle.rsx_sources.specs.declared.machine.Machine.{Ghosts as Machine}
-use Rattle.std.proofs.Common.{◌≡◌, ℕ, zero, suc, ◌+◌, ◌<◌, ◌≤◌, min, Bool, true, false, ◌&&◌, nat_lt, if◌then◌else◌, List, [], ◌∷◌, ◌++◌, length, take, slice_get, Some, refl, ap, sym, ◌∙◌, subst, arith, add-zero}
+use Rattle.std.proofs.Common.{◌≡◌, ℕ, zero, suc, ◌+◌, ◌<◌, ◌≤◌, min, Bool, true, false, ◌&&◌, nat_lt, if◌then◌else◌, List, [], ◌∷◌, ◌++◌, length, reverse, take, slice_get, Some, refl, ap, sym, ◌∙◌, subst, arith, add-zero}
 use Rattle.std.proofs.lemmas.Bool.Decides.{nat_tests}
 use Rattle.std.proofs.lemmas.List.{append-nil}
 use Rattle.rsx_demand.specs.Demand.{saturating_total}
 use Rattle.rsx_subscriber.specs.Prelude.{fresh_edge, Expr, Live, Closed, NodeMove, IsMadeInside, IsOpenAt, with_signal_at, IsPutOut, Part as PartOf, PartStands, AreTaken}
 use Rattle.rsx_tree.specs.Prelude.{edge_view, IsHandedOut, is_room_for, times}
 use Rattle.rsx_demand.specs.declared.TheConstants.{UNBOUNDED}
-use Rattle.rsx_sources.specs.Prelude.{Meaning, Open, Stream, ended_by, signals, Signal}
+use Rattle.rsx_sources.specs.Prelude.{Meaning, Next, Open, Stream, ended_by, signals, Signal}
 use Rattle.rsx_hub.specs.Hub.{HubState}
+use Rattle.rsx_tree.specs.Runs.{Leads}
+use Rattle.rsx_rooted.proofs.TakenOff.{taken_as}
+use Rattle.rsx_rooted.specs.Taking.{AreTakenOff, blocks}
 use Rattle.rsx_pipe.specs.Published as Part
-use Rattle.rsx_graph_state.specs.Feeds.{FeedStands, IsFeedHanded, begun_edge, has_room_at, reads_at}
+use Rattle.rsx_pipe.specs.Taking as Items
+use Rattle.rsx_pipe.specs.Taking.{spaces_for}
+use Rattle.rsx_graph_state.specs.Feeds.{FeedStands, IsFeedHanded, IsItemHandedToFeed, begun_edge, has_room_at, reads_at, spaces_at}
 use Rattle.rsx_graph_state.specs.Publishing.{AllFeedsHanded, feed_readers, feeds_have_room}
 use Rattle.rsx_graph_state.specs.declared.feed.Feed.{Feed}
 use Rattle.rsx_graph_state.proofs.Skipping.{part_same, unread_room}
@@ -207,3 +212,39 @@ unread_rooms mc h (f ∷ fs) none = ap (λ b. b && feeds_have_room mc h fs) (unr
 -- the same of the feeds that were lent, of the hub with that number
 pub unread_of_all : {M T : Type 0} (mc : Machine M T) (h n : ℕ) (feeds fs : List (Feed M)) → n ≡ h → fs ≡ feeds → feed_readers mc n fs ≡ 0 → feed_readers mc h feeds ≡ 0
 unread_of_all mc h n feeds fs named same none = sym (ap (λ k. feed_readers mc k feeds) named) ∙ (sym (ap (λ l. feed_readers mc n l) same) ∙ none)
+
+-- ---- several items of a hub at once
+
+pub spaces_before : {M T : Type 0} (mc : Machine M T) (spaces : M → ℕ) (h most n : ℕ) (f : Feed M) → nat_lt h f.hub ≡ true → n ≡ spaces_for mc spaces h most f.part → n ≡ spaces_at mc spaces h most f
+spaces_before mc spaces h most n f below is = is ∙ ap (λ b. if b then spaces_for mc spaces h most f.part else most) (sym below)
+
+pub spaces_behind : {M T : Type 0} (mc : Machine M T) (spaces : M → ℕ) (h most : ℕ) (f : Feed M) → nat_lt h f.hub ≡ false → most ≡ spaces_at mc spaces h most f
+spaces_behind mc spaces h most f not = ap (λ b. if b then spaces_for mc spaces h most f.part else most) (sym not)
+
+-- the part goes on reading the hub as the feed does
+fed_run : {M T : Type 0} (mc : Machine M T) (h : ℕ) (items : List T) (f : Feed M) (part : PartOf M) → nat_lt h f.hub ≡ true → Leads (Items.IsItemHanded mc h) f.part items part → Leads (IsItemHandedToFeed mc h) f items (record { part = part; hub = f.hub })
+fed_run mc h [] f part below run = λ i. record { part = run i; hub = f.hub }
+fed_run mc h (x ∷ items) f part below run = (
+  record { part = run.0; hub = f.hub },
+  record { room = ap (λ b. if b then Part.has_room_for mc h f.part else true) below ∙ run.1.room; handed = feed_handed mc h (Next x) f run.0 below run.1.handed },
+  fed_run mc h items (record { part = run.0; hub = f.hub }) part below run.2,
+)
+
+pub many_feed : {M T : Type 0} (mc : Machine M T) (spaces : M → ℕ) (h count most : ℕ) (f : Feed M) (part : PartOf M) (given left : List T) → nat_lt h f.hub ≡ true → AreTakenOff (Part.readers mc h f.part) count (spaces_for mc spaces h most f.part) given left (λ xs. Leads (Items.IsItemHanded mc h) f.part xs part) →
+    AreTakenOff (reads_at mc h f) count (spaces_at mc spaces h most f) given left (λ xs. Leads (IsItemHandedToFeed mc h) f xs (record { part = part; hub = f.hub }))
+many_feed {M} {T} mc spaces h count most f part given left below taken =
+    let readers : Part.readers mc h f.part ≡ reads_at mc h f = ap (λ b. if b then Part.readers mc h f.part else 0) (sym below) in
+    let room : spaces_at mc spaces h most f ≡ spaces_for mc spaces h most f.part = ap (λ b. if b then spaces_for mc spaces h most f.part else most) below in
+    taken_as (Part.readers mc h f.part) (reads_at mc h f) count (spaces_for mc spaces h most f.part) (spaces_at mc spaces h most f) given left (λ xs. Leads (Items.IsItemHanded mc h) f.part xs part) (λ xs. Leads (IsItemHandedToFeed mc h) f xs (record { part = part; hub = f.hub }))
+    readers (omega (arith, room)) (λ xs run. fed_run mc h xs f part below run) taken
+
+-- one that comes before the hub takes none in
+none_run : {M T : Type 0} (mc : Machine M T) (h : ℕ) (items : List T) (f : Feed M) → nat_lt h f.hub ≡ false → Leads (IsItemHandedToFeed mc h) f items f
+none_run mc h [] f not = refl
+none_run mc h (x ∷ items) f not = (f, record { room = ap (λ b. if b then Part.has_room_for mc h f.part else true) not; handed = feed_unhanded mc h (Next x) f not }, none_run mc h items f not)
+
+pub many_none : {M T : Type 0} (mc : Machine M T) (spaces : M → ℕ) (h count most : ℕ) (f : Feed M) (given : List T) → nat_lt h f.hub ≡ false →
+    AreTakenOff (reads_at mc h f) count (spaces_at mc spaces h most f) given given (λ xs. Leads (IsItemHandedToFeed mc h) f xs f)
+many_none mc spaces h count most f given not before xs all len fits =
+    let none : reads_at mc h f ≡ 0 = ap (λ b. if b then Part.readers mc h f.part else 0) not in
+    (none_run mc h xs f not, all ∙ (ap (λ n. before ++ blocks n (reverse xs)) none ∙ append-nil before))

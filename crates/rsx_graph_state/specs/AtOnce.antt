@@ -10,7 +10,8 @@ use Rattle.rsx_pipe.specs.Fetched.{AreFed}
 use Rattle.rsx_pipe.specs.Taking.{spaces_for}
 use Rattle.rsx_subscriber.specs.declared.subscription.Subscription.{Subscription}
 use Rattle.rsx_graph_state.specs.Moves.{IsAcceptedAt, IsFeedMoved, accepts_at, feed_enabled}
-use Rattle.rsx_graph_state.specs.Publishing.{AllHanded, have_room}
+use Rattle.rsx_graph_state.specs.Feeds.{spaces_at}
+use Rattle.rsx_graph_state.specs.Publishing.{AllFeedsHanded, AllHanded, feeds_have_room, have_room}
 use Rattle.rsx_graph_state.specs.Stands.{Rows, feed_of}
 use Rattle.rsx_graph_state.specs.declared.feed.Feed.{Feed}
 
@@ -19,17 +20,28 @@ pub record IsItemHandedToAll {M T : Type 0} (mc : Machine M T) (h : ℕ) (old : 
   pub room : have_room mc h old ≡ true
   pub handed : AllHanded mc h (Next x) old new
 
+-- all nodes of these feeds that read the hub did
+pub record IsItemHandedToFeeds {M T : Type 0} (mc : Machine M T) (h : ℕ) (old : List (Feed M)) (x : T) (new : List (Feed M)) : Type 0 where
+  pub room : feeds_have_room mc h old ≡ true
+  pub handed : AllFeedsHanded mc h (Next x) old new
+
 -- so many items, which were all that waited, were taken in one after the other, and each was handed to all of these nodes
-pub record AreAccepted {M T : Type 0} (mc : Machine M T) (h n : ℕ) (hub hub' : HubState T) (old new : List (Subscription M T)) : Type 0 where
+pub record AreAccepted {M T : Type 0} (mc : Machine M T) (h n : ℕ) (hub hub' : HubState T) (feeds feeds' : List (Feed M)) (old new : List (Subscription M T)) : Type 0 where
   pub items : List T
   pub count : length items ≡ n
   pub taken : AllByOne hub items hub'
+  pub fed : Leads (IsItemHandedToFeeds mc h) feeds items feeds'
   pub handed : Leads (IsItemHandedToAll mc h) old items new
 
 -- the least of the numbers of items for which the nodes of these subscriptions have room at once, but at most so many
 abbrev pub spaces_of_all : {M T : Type 0} → Machine M T → (M → ℕ) → ℕ → ℕ → List (Subscription M T) → ℕ
 spaces_of_all mc spaces h most [] = most
 spaces_of_all mc spaces h most (x ∷ xs) = spaces_of_all mc spaces h (spaces_for mc spaces h most x.part) xs
+
+-- the same of the nodes of these feeds
+abbrev pub spaces_of_feeds : {M T : Type 0} → Machine M T → (M → ℕ) → ℕ → ℕ → List (Feed M) → ℕ
+spaces_of_feeds mc spaces h most [] = most
+spaces_of_feeds mc spaces h most (f ∷ fs) = spaces_of_feeds mc spaces h (spaces_at mc spaces h most f) fs
 
 -- an Accept of the hub with this number that was enabled
 pub record IsAccept {M T : Type 0} (mc : Machine M T) (h : ℕ) (old new : Rows M T) : Type 0 where

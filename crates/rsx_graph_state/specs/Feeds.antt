@@ -3,8 +3,9 @@ use Rattle.rsx_sources.specs.declared.machine.Machine.{Ghosts as Machine}
 use Rattle.std.specs.Prelude.{◌≡◌, ℕ, Bool, true, false, nat_lt, if◌then◌else◌, List, take, Some, slice_get}
 use Rattle.rsx_demand.specs.declared.TheConstants.{UNBOUNDED}
 use Rattle.rsx_subscriber.specs.Prelude.{Expr, Closed, Live, IsOpenAt, with_signal_at, PartStands}
-use Rattle.rsx_sources.specs.Prelude.{Meaning, Stream, signals, Signal}
+use Rattle.rsx_sources.specs.Prelude.{Meaning, Stream, signals, Signal, Next}
 use Rattle.rsx_pipe.specs.Published as Part
+use Rattle.rsx_pipe.specs.Taking.{spaces_for}
 use Rattle.rsx_tree.specs.Edges.{EdgeView}
 use Rattle.rsx_graph_state.specs.declared.feed.Feed.{Feed}
 
@@ -38,3 +39,14 @@ pub record IsFeedHanded {M T : Type 0} (mc : Machine M T) (h : ℕ) (s : Signal 
   pub same : nat_lt h old.hub ≡ false → new ≡ old
   -- a feed of another hub stands for the same, where this hub published that signal besides
   pub stands : (m : Meaning T) (published : List (Stream T)) (e : Expr T) (joins : List ℕ) → IsOpenAt h published → (old.hub ≡ h → ⊥) → FeedStands mc m published old e joins → FeedStands mc m (with_signal_at h s published) new e joins
+
+-- ---- several items at once
+
+-- each node of the feed that reads the hub had room for an item of it, and took it in
+pub record IsItemHandedToFeed {M T : Type 0} (mc : Machine M T) (h : ℕ) (old : Feed M) (x : T) (new : Feed M) : Type 0 where
+  pub room : has_room_at mc h old ≡ true
+  pub handed : IsFeedHanded mc h (Next x) old new
+
+-- for how many items of the hub all of them have room at once, but at most so many
+abbrev pub spaces_at : {M T : Type 0} → Machine M T → (M → ℕ) → ℕ → ℕ → Feed M → ℕ
+spaces_at mc spaces h most f = if nat_lt h f.hub then spaces_for mc spaces h most f.part else most

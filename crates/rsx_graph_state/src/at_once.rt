@@ -2,16 +2,16 @@
 
 ghost use Rattle.std.specs.Prelude.{◌≡◌, ◌<◌, ◌≤◌, ℕ, [], false, Some, None, IfSome, List, OnOk, OnErr, length, reverse};
 ghost use Rattle.rsx_hub.specs.Hub.{all_accepted, replayed};
-ghost use Rattle.rsx_rooted.specs.Taking.{blocks};
+ghost use Rattle.rsx_rooted.specs.Taking.{AreTakenOff, blocks};
 ghost use Rattle.rsx_tree.specs.Runs.{Leads, LeadsBy};
 ghost use Rattle.rsx_graph_state.specs.AtOnce as spec;
-ghost use Rattle.rsx_graph_state.specs.AtOnce.{AreAccepted, IsAccept, IsItemHandedToAll};
+ghost use Rattle.rsx_graph_state.specs.AtOnce.{AreAccepted, IsAccept, IsItemHandedToAll, IsItemHandedToFeeds};
 ghost use Rattle.rsx_graph_state.specs.Moves.{rows_of};
 ghost use Rattle.rsx_graph_state.specs.Publishing as counts;
 ghost use Rattle.rsx_graph_state.specs.Stands as stands;
 ghost use Rattle.rsx_graph_state.specs.SubscriptionSet.{NoneReads};
 
-use crate::publishing::{feed_readers_up_to, with_room};
+use crate::publishing::{all_with_room, feed_readers_up_to, with_room};
 use crate::{Feed, Skipped};
 use rsx_hub::Hub;
 use rsx_pipe::Nodes;
@@ -23,17 +23,17 @@ use std::alloc::Global;
 /// The fewest items that are taken in at once.
 const FEWEST_AT_ONCE: u64 = 2;
 
-/// A hub that is there and has no feed takes in all items that wait in its inbox, and each node of a subscription that reads the hub
-/// gets them. That is what so many calls of [`accept_unfed`](crate::accept_unfed) do. It answers how many items those are: none,
-/// where it doesn't do so at once. It does not where there are more than `most`, where a node has no room for all of them, where
-/// the hub keeps items for new members, where a feed reads it, and where memory was wanting.
+/// A hub that is there and has no feed takes in all items that wait in its inbox, and each node of a feed or a subscription that reads
+/// the hub gets them. That is what so many calls of [`accept_unfed`](crate::accept_unfed) do. It answers how many items those are: 0
+/// where it doesn't do so at once, and then nothing has changed. When it does is no promise: where no more than `most` wait, each of
+/// these nodes has room for all of them, and the hub keeps no items for new members, but for want of memory.
 ///
 /// It looks at no subscription that is skipped. The list is empty before and after; used again, it takes no memory.
 pub fn accept_all<N: Nodes<Item = O::Item> + Batches, O: Ops>(
     alloc: Global,
     ops: &O,
     hubs: &mut Vec<Hub<O::Item>>,
-    feeds: &Vec<Feed<N>>,
+    feeds: &mut Vec<Feed<N>>,
     subscriptions: &mut Vec<Subscription<N, O::Item>>,
     hub: HubId,
     skipped: &Skipped,
@@ -41,38 +41,27 @@ pub fn accept_all<N: Nodes<Item = O::Item> + Batches, O: Ops>(
     most: u32,
 ) -> u32
     requires there { hub.0 < length hubs.old.items }
-    requires unfed { stands.feed_of feeds.now.items hub.0 ≡ None }
+    requires unfed { stands.feed_of feeds.old.items hub.0 ≡ None }
     requires unread { NoneReads N.Machine hub.0 skipped.now subscriptions.old.items }
     requires empty { items.old.items ≡ [] }
     ensures hubs { length hubs.new.items ≡ length hubs.old.items }
+    ensures feeds { length feeds.new.items ≡ length feeds.old.items }
     ensures subscriptions { length subscriptions.new.items ≡ length subscriptions.old.items }
-    ensures made { LeadsBy (IsAccept N.Machine hub.0) result (rows_of hubs.old.items feeds.now.items subscriptions.old.items) (rows_of hubs.new.items feeds.now.items subscriptions.new.items) }
+    ensures made { LeadsBy (IsAccept N.Machine hub.0) result (rows_of hubs.old.items feeds.old.items subscriptions.old.items) (rows_of hubs.new.items feeds.new.items subscriptions.new.items) }
     ensures most { result ≤ most }
     ensures empty { items.new.items ≡ [] }
 {
-    if is_read_by_feeds(u64::from(hub.0), feeds) {
-        return 0;
-    }
     take_in_all(
         alloc,
         ops,
         &mut hubs[hub.0 as usize],
         hub.0,
+        feeds,
         subscriptions,
         skipped,
         items,
         most,
     )
-}
-
-/// Whether a node of these feeds reads the hub.
-pub(crate) fn is_read_by_feeds<N: Nodes<Item = T>, T: Drop>(
-    number: u64,
-    feeds: &[Feed<N>],
-) -> bool
-    ensures { result ≡ false → counts.feed_readers N.Machine number feeds.now ≡ 0 }
-{
-    feed_readers_up_to(number, feeds, 1) > 0
 }
 
 /// The same of this hub.
@@ -81,6 +70,7 @@ fn take_in_all<N: Nodes<Item = O::Item> + Batches, O: Ops>(
     ops: &O,
     hub: &mut Hub<O::Item>,
     number: u32,
+    feeds: &mut [Feed<N>],
     subscriptions: &mut [Subscription<N, O::Item>],
     skipped: &Skipped,
     items: &mut Vec<O::Item>,
@@ -88,7 +78,7 @@ fn take_in_all<N: Nodes<Item = O::Item> + Batches, O: Ops>(
 ) -> u32
     requires unread { NoneReads N.Machine number skipped.now subscriptions.old }
     requires empty { items.old.items ≡ [] }
-    ensures made { AreAccepted N.Machine number result hub.old hub.new subscriptions.old subscriptions.new }
+    ensures made { AreAccepted N.Machine number result hub.old hub.new feeds.old feeds.new subscriptions.old subscriptions.new }
     ensures most { result ≤ most }
     ensures empty { items.new.items ≡ [] }
 {
@@ -97,15 +87,67 @@ fn take_in_all<N: Nodes<Item = O::Item> + Batches, O: Ops>(
         return 0;
     }
     let number = u64::from(number);
-    let Some(readers) = ready_readers(number, subscriptions, skipped, count) else {
+    let Some(readers) = all_ready(number, feeds, subscriptions, skipped, count) else {
         return 0;
     };
     if lay_out(alloc, ops, hub, readers, items).is_err() {
         items.clear();
         return 0;
     }
+    hand_all_feeds(number, feeds, items, count);
     hand_all(number, subscriptions, skipped, items, count);
     count as u32
+}
+
+/// How many nodes of these feeds and subscriptions read the hub, where there are some, and each of them has room for so many items at
+/// once.
+fn all_ready<N: Nodes<Item = T> + Batches, T: Drop>(
+    number: u64,
+    feeds: &[Feed<N>],
+    subscriptions: &[Subscription<N, T>],
+    skipped: &Skipped,
+    count: u64,
+) -> Option<u32>
+    requires unread { NoneReads N.Machine number skipped.now subscriptions.now }
+    ensures some { IfSome result (λ n. (n ≡ counts.all_readers N.Machine number feeds.now subscriptions.now) × (0 < n)) }
+    ensures feeds { IfSome result (λ n. count ≤ spec.spaces_of_feeds N.Machine N.spaces_of number count feeds.now) }
+    ensures room { IfSome result (λ n. count ≤ spec.spaces_of_all N.Machine N.spaces_of number count subscriptions.now) }
+{
+    let Some(readers) = all_with_room(number, feeds, subscriptions, skipped, u32::MAX) else {
+        return None;
+    };
+    if readers == 0 || readers == u32::MAX {
+        return None;
+    }
+    if spaces_of_feeds(number, feeds, count) < count {
+        return None;
+    }
+    if spaces_of_all(number, subscriptions, skipped, count) < count {
+        return None;
+    }
+    Some(readers)
+}
+
+/// Whether a node of these feeds reads the hub.
+pub(crate) fn is_read_by_feeds<N: Nodes<Item = T>, T: Drop>(number: u64, feeds: &[Feed<N>]) -> bool
+    ensures { result ≡ false → counts.feed_readers N.Machine number feeds.now ≡ 0 }
+{
+    feed_readers_up_to(number, feeds, 1) > 0
+}
+
+/// The least of the numbers of items for which the nodes of these feeds that read the hub have room at once, but at most `most`.
+fn spaces_of_feeds<N: Nodes<Item = T> + Batches, T: Drop>(
+    number: u64,
+    feeds: &[Feed<N>],
+    most: u64,
+) -> u64
+    ensures { result ≡ spec.spaces_of_feeds N.Machine N.spaces_of number most feeds.now }
+{
+    let mut left = most;
+    for feed in feeds {
+        left = feed.spaces_for(number, left);
+    }
+    left
 }
 
 /// How many nodes of these subscriptions read the hub, where there are some, and each of them has room for so many items at once.
@@ -172,6 +214,22 @@ fn lay_out<O: Ops>(
         hub.copy_inbox(alloc, ops, items)?;
     }
     hub.accept_all(items)
+}
+
+/// Hands so many items of the hub to each node of these feeds that reads it. They stand at the end of a list, the first of them last,
+/// once for each of these nodes, and are taken out there; what else stands in the list stays. Each of the nodes has room for them.
+fn hand_all_feeds<N: Nodes<Item = T> + Batches, T: Drop>(
+    number: u64,
+    feeds: &mut [Feed<N>],
+    items: &mut Vec<T>,
+    count: u64,
+)
+    ensures { (most : ℕ) → AreTakenOff (counts.feed_readers N.Machine number feeds.old) count (spec.spaces_of_feeds N.Machine N.spaces_of number most feeds.old) items.old.items items.new.items
+        (λ xs. Leads (IsItemHandedToFeeds N.Machine number) feeds.old xs feeds.new) }
+{
+    for feed in feeds.iter_mut() {
+        feed.hand_many(number, items, count);
+    }
 }
 
 /// Hands so many items of the hub to each node of these subscriptions that reads it. They are all that stands in the list, the first of

@@ -2,6 +2,7 @@
 
 use rsx_demand::UNBOUNDED;
 use rsx_pipe::{NoRoom, NodeMove, Nodes, Part};
+use rsx_rooted::Batches;
 use rsx_tree::Node;
 use rsx_types::Signal;
 
@@ -96,6 +97,35 @@ impl<N: Nodes<Item = T>, T: Drop> Feed<N> {
     {
         if hub < u64::from(self.hub) {
             self.part.hand(hub, signals);
+        }
+    }
+}
+
+impl<N: Nodes<Item = T> + Batches, T: Drop> Feed<N> {
+    ghost use Rattle.std.specs.Prelude.{◌≡◌, ℕ};
+    ghost use Rattle.rsx_rooted.specs.Taking.{AreTakenOff};
+    ghost use Rattle.rsx_tree.specs.Runs.{Leads};
+    ghost use Rattle.rsx_graph_state.specs.Feeds.{IsItemHandedToFeed, reads_at, spaces_at};
+
+    /// For how many items of the hub with this number all nodes of its part that read the hub have room at once, but at most `most`.
+    pub fn spaces_for(&self, hub: u64, most: u64) -> u64
+        ensures { result ≡ spaces_at N.Machine N.spaces_of hub most self.now }
+    {
+        if hub < u64::from(self.hub) {
+            return self.part.spaces_for(hub, most);
+        }
+        most
+    }
+
+    /// Hands so many items of the hub to each node of its part that reads the hub. They stand at the end of a list, the first of them
+    /// last, once for each of these nodes, and are taken out there; what else stands in the list stays. Each of the nodes has room
+    /// for them ([`Feed::spaces_for`]).
+    pub fn hand_many(&mut self, hub: u64, items: &mut Vec<T>, count: u64)
+        ensures { (most : ℕ) → AreTakenOff (reads_at N.Machine hub self.old) count (spaces_at N.Machine N.spaces_of hub most self.old) items.old.items items.new.items
+            (λ xs. Leads (IsItemHandedToFeed N.Machine hub) self.old xs self.new) }
+    {
+        if hub < u64::from(self.hub) {
+            self.part.hand_many(hub, items, count);
         }
     }
 }

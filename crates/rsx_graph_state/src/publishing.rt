@@ -106,7 +106,7 @@ pub(crate) fn readers_for<N: Nodes<Item = T>, T: Drop>(
 }
 
 /// How many nodes read the hub, but at most `most`, where all of them have room for an item of it. None where one has none.
-fn all_with_room<N: Nodes<Item = T>, T: Drop>(
+pub(crate) fn all_with_room<N: Nodes<Item = T>, T: Drop>(
     number: u64,
     feeds: &[Feed<N>],
     subscriptions: &[Subscription<N, T>],
@@ -195,7 +195,11 @@ fn all_readers_up_to<N: Nodes<Item = T>, T: Drop>(
 }
 
 /// How many nodes of these feeds read the hub, but at most `most`.
-pub(crate) fn feed_readers_up_to<N: Nodes<Item = T>, T: Drop>(number: u64, feeds: &[Feed<N>], most: u32) -> u32
+pub(crate) fn feed_readers_up_to<N: Nodes<Item = T>, T: Drop>(
+    number: u64,
+    feeds: &[Feed<N>],
+    most: u32,
+) -> u32
     ensures { result ≡ min (feed_readers N.Machine number feeds.now) most }
 {
     let mut found = 0;

@@ -19,12 +19,12 @@ returns-in-None-clause-made g c =
     let m = g.O.Ops.meaning c.args.ops.now in
     let h = c.args.hub in
     leads_by_lift (IsAccept g.N.Machine h.0) (IsHubMovedOn g.N.Machine g.N.Nodes m h.0) (λ r. r) (λ a b k. moved_on g.N.Machine g.N.Nodes m h.0 a b (emitter_moved g.N.Machine g.N.Nodes m h a b k.enabled k.effect)) c.accept_all.result
-    (rows_of c.args.hubs.now.items c.args.feeds.now.items c.args.subscriptions.now.items) (rows_of c.accept_all.new.hubs.items c.args.feeds.now.items c.accept_all.new.subscriptions.items) c.accept_all.ensures.made
+    (rows_of c.args.hubs.now.items c.args.feeds.now.items c.args.subscriptions.now.items) (rows_of c.accept_all.new.hubs.items c.accept_all.new.feeds.items c.accept_all.new.subscriptions.items) c.accept_all.ensures.made
 
 pub returns-in-None-clause-awake : goal.returns-in-None-clause-awake
 returns-in-None-clause-awake g c =
     let m = g.O.Ops.meaning c.args.ops.now in
     let h = c.args.hub in
     let old = rows_of c.args.hubs.now.items c.args.feeds.now.items c.args.subscriptions.now.items in
-    let new = rows_of c.accept_all.new.hubs.items c.args.feeds.now.items c.accept_all.new.subscriptions.items in
+    let new = rows_of c.accept_all.new.hubs.items c.accept_all.new.feeds.items c.accept_all.new.subscriptions.items in
     awake_first g.N.Machine g.N.Nodes m h.0 c.accept_all.result old new (leads_by_lift (IsAccept g.N.Machine h.0) (IsHubMoved g.N.Machine g.N.Nodes m h.0) (λ r. r) (λ a b k. emitter_moved g.N.Machine g.N.Nodes m h a b k.enabled k.effect) c.accept_all.result old new c.accept_all.ensures.made)

@@ -1,5 +1,9 @@
-use Rattle.std.proofs.Common.{◌+◌, ◌<◌, arith, length, set}
-use Rattle.rsx_graph_state.proofs.AllAtOnce.{IsHandedOn, far_begun, far_handed, far_skipped, far_through}
+use Rattle.std.proofs.Common.{◌+◌, ◌<◌, [], arith, length, set}
+use Rattle.rsx_pipe.specs.Published.{readers}
+use Rattle.rsx_pipe.specs.Taking.{spaces_for}
+use Rattle.rsx_subscriber.specs.Published.{IsItemHanded}
+use Rattle.rsx_subscriber.specs.declared.subscription.Subscription.{Subscription}
+use Rattle.rsx_graph_state.proofs.AllAtOnce.{IsHandedOn, far_begun, far_handed, far_skipped, far_through, fits_at}
 use Rattle.rsx_graph_state.proofs.Skipping.{readers_past, unread_between}
 use Rattle.rsx_graph_state.proofs.at_once.hand_all.Goals as goal
 
@@ -10,7 +14,7 @@ walk-init g c = λ most xs all len fits.
     let subs = c.args.subscriptions.now in
     let n = c.next-to.result in
     let none = unread_between g.N.Machine h 0 n c.args.skipped.now subs c.requires.unread c.next-to.ensures.passed in
-    far_skipped g.N.Machine h xs 0 n subs subs c.args.items.now.items (omega arith) none (readers_past g.N.Machine h 0 n subs (omega arith) none) (far_begun g.N.Machine h xs subs c.args.items.now.items all)
+    far_skipped g.N.Machine h [] xs 0 n subs subs c.args.items.now.items (omega arith) none (readers_past g.N.Machine h 0 n subs (omega arith) none) (far_begun (λ (x : Subscription g.row.N.Denot g.row.T.Denot). readers g.N.Machine h x.part) (IsItemHanded g.N.Machine h) [] xs subs c.args.items.now.items all)
 
 pub walk-preserved : goal.walk-preserved
 unfolding IsHandedOn
@@ -27,8 +31,8 @@ walk-preserved g c = λ most xs all len fits.
     let less = c.walk-test.true in
     let within : at < length subs = omega (arith, count, less) in
     let none = unread_between g.N.Machine h (at + 1) n c.args.skipped.now subs c.requires.unread c.next-to-in-walk.ensures.passed in
-    far_skipped g.N.Machine h xs (at + 1) n subs (set ys at y) c.hand_many.new.items.items c.next-to-in-walk.ensures.above none (readers_past g.N.Machine h (at + 1) n subs c.next-to-in-walk.ensures.above none)
-    (far_handed g.N.Machine g.N.Batches.spaces_of h c.args.count most xs at subs ys x y c.walk.items.items c.hand_many.new.items.items within len fits c.hand_many.ensures begun)
+    far_skipped g.N.Machine h [] xs (at + 1) n subs (set ys at y) c.hand_many.new.items.items c.next-to-in-walk.ensures.above none (readers_past g.N.Machine h (at + 1) n subs c.next-to-in-walk.ensures.above none)
+    (far_handed (λ (x : Subscription g.row.N.Denot g.row.T.Denot). readers g.N.Machine h x.part) (λ m (x : Subscription g.row.N.Denot g.row.T.Denot). spaces_for g.N.Machine g.N.Batches.spaces_of h m x.part) (IsItemHanded g.N.Machine h) c.args.count [] xs at subs ys x y c.walk.items.items c.hand_many.new.items.items within len (λ z there. fits_at g.N.Machine g.N.Batches.spaces_of h c.args.count most at subs z fits there) c.hand_many.ensures begun)
 
 pub walk-smaller : goal.walk-smaller
 walk-smaller g c =
