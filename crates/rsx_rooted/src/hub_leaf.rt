@@ -10,9 +10,6 @@ use rsx_sources::Machine;
 use rsx_types::{Ops, Signal};
 use std::alloc::Global;
 
-/// The fewest items that are taken out at once: fewer come sooner one by one.
-const FEWEST_TAKEN_OUT: u64 = 4;
-
 impl<T: Drop> Batches for HubLeaf<T> {
     ghost went = { λ old noted new. new ≡ old };
 
@@ -51,7 +48,7 @@ impl<T: Drop> Batches for HubLeaf<T> {
         items: &mut Vec<T>,
     ) -> bool {
         let fewer = most.min(self.len() as u64);
-        if fewer < FEWEST_TAKEN_OUT {
+        if fewer == 0 {
             return false;
         }
         let mut out = match Vec::with_capacity(alloc, fewer as usize) {
