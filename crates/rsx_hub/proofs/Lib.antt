@@ -3,6 +3,7 @@
 pub mod Accepting
 pub mod Leaves
 pub mod Lists
+pub mod Moving
 pub mod Readings
 pub mod Rests
 pub mod Spaces

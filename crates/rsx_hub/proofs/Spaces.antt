@@ -3,12 +3,13 @@ use Rattle.std.proofs.Common.{◌≡◌, ℕ, suc, ◌+◌, ◌-◌, ◌<◌, �
 use Rattle.std.specs.Prelude.{OnOk}
 use Rattle.std.proofs.lemmas.Bool.Decides.{nat_tests}
 use Rattle.std.proofs.lemmas.List.{length-append}
-use Rattle.rsx_sources.specs.Prelude.{Signal, Next, Complete, Error, is_nil}
+use Rattle.rsx_sources.specs.Prelude.{CountsStep, IsReadOn, Signal, Next, Complete, Error, is_nil}
 use Rattle.rsx_hub.specs.Waiting.{is_open}
 use Rattle.rsx_hub.specs.declared.TheConstants.{MOST_ACCEPTED}
 use Rattle.rsx_hub.specs.Member.{MemberState, took, spaces}
-use Rattle.rsx_hub.specs.Leaf.{LeafState, leaf_rooms, leaf_spaces, leaf_took}
-use Rattle.rsx_hub.proofs.Leaves.{leaf_of}
+use Rattle.rsx_hub.specs.Leaf.{LeafState, leaf_comes_out, leaf_counted, leaf_reads, leaf_rooms, leaf_spaces, leaf_took, member_of}
+use Rattle.rsx_hub.proofs.Leaves.{counts_on, leaf_of, read_on}
+use Rattle.rsx_hub.proofs.Rests.{took_rest}
 
 room_in : (b empty : Bool) (l c r m : ℕ) → 0 < (if b then min (c - l) (m - r) else 0) → (b && ((empty || nat_lt l c) && nat_lt r m)) ≡ true
 room_in true true l c r m h = grind (arith, nat_tests)
@@ -21,6 +22,23 @@ room_in false empty l c r m h = absurd (omega (arith, h))
 -- where it has room for one at least, it has room for the next one
 pub spaces_room : {T : Type 0} (n : LeafState T) → 0 < leaf_spaces n → leaf_rooms n ≡ true
 spaces_room n h = room_in (is_open n.ending) (is_nil n.queue) (length n.queue) n.capacity n.reached MOST_ACCEPTED h
+
+takes_in : (b : Bool) (l c r m : ℕ) → 0 < (if b then min (c - l) (m - r) else 0) → (b && (nat_lt l c && nat_lt r m)) ≡ true
+takes_in true l c r m h =
+    let fits : nat_lt l c ≡ true = grind (arith, nat_tests) in
+    let few : nat_lt r m ≡ true = grind (arith, nat_tests) in
+    rw (fits, few) refl
+takes_in false l c r m h = absurd (omega (arith, h))
+
+-- and it takes that in
+pub item_taken : {T : Type 0} (n : LeafState T) (x : T) → 0 < leaf_spaces n → IsReadOn leaf_comes_out leaf_reads n (Next x) (leaf_took n (Next x)) × CountsStep leaf_counted (λ k. false) (λ k i. false) n (leaf_took n (Next x))
+item_taken {T} n x some =
+    let m : MemberState T = member_of n in
+    let made : Result ℕ ℕ = Ok 0 in
+    let can = takes_in (is_open n.ending) (length n.queue) n.capacity n.reached MOST_ACCEPTED some in (
+      read_on n.hub n.missed n.before m (took m (Next x)) (Next x) made refl can refl (took_rest m (Next x) can),
+      counts_on n.hub n.missed n.before m (took m (Next x)) (Next x) made refl,
+    )
 
 fewer_in : (b : Bool) (k l c r m : ℕ) → suc k ≤ (if b then min (c - l) (m - r) else 0) → k ≤ (if b then min (c - (l + 1)) (m - (r + 1)) else 0)
 fewer_in true k l c r m h = omega (arith, h)

@@ -63,6 +63,10 @@ leaf_took n (Next x) = record n { queue = n.queue ++ x ∷ []; reached = n.reach
 leaf_took n Complete = record n { ending = Done }
 leaf_took n (Error c) = record n { ending = Failed c }
 
+-- after it took in these items of its hub
+abbrev pub leaf_took_all : {T : Type 0} → LeafState T → List T → LeafState T
+leaf_took_all n xs = record n { queue = n.queue ++ xs; reached = n.reached + length xs }
+
 -- what it sent and what it holds is what it had before and what its member took in
 abbrev pub leaf_counted : {T : Type 0} → LeafState T → List ℕ → ℕ → Type 0
 leaf_counted n taken sent = n.missed + sent + length n.queue ≡ n.reached + n.before

@@ -1,5 +1,5 @@
 -- What a contract sees of a member, what its calls make of it, and what it still gives out.
-use Rattle.std.specs.Prelude.{◌≡◌, ℕ, ◌+◌, ◌-◌, ◌≤◌, min, max, Bool, true, false, ◌&&◌, if◌then◌else◌, nat_lt, List, [], ◌∷◌, ◌++◌, length, drop, Option, Some, None}
+use Rattle.std.specs.Prelude.{◌≡◌, ℕ, ◌+◌, ◌-◌, ◌≤◌, min, max, Bool, true, false, ◌&&◌, if◌then◌else◌, nat_lt, List, [], ◌∷◌, ◌++◌, length, reverse, drop, Option, Some, None}
 use Rattle.rsx_sources.specs.Prelude.{Ending, Open, Done, Failed, Signal, Next, Complete, Error, Stream, ended_by, items_then, signal_then, ended_or}
 pub use Rattle.rsx_sources.specs.Reading.{IsNextAt}
 use Rattle.rsx_hub.specs.declared.TheConstants.{MOST_ACCEPTED}
@@ -84,6 +84,14 @@ abbrev pub took : {T : Type 0} → MemberState T → Signal T → MemberState T
 took m (Next x) = record m { queue = m.queue ++ x ∷ []; reached = m.reached + 1 }
 took m Complete = record m { ending = Done }
 took m (Error c) = record m { ending = Failed c }
+
+-- after it took in these items
+abbrev pub took_all : {T : Type 0} → MemberState T → List T → MemberState T
+took_all m xs = record m { queue = m.queue ++ xs; reached = m.reached + length xs }
+
+-- so many items left the end of a list, the last one first, and this holds of them
+abbrev pub AreMoved : {T : Type 0} → ℕ → List T → List T → (List T → Type 0) → Type 0
+AreMoved {T} count old new done = (xs : List T) × (length xs ≡ count) × (old ≡ new ++ reverse xs) × done xs
 
 -- for how many items it has room
 abbrev pub spaces : {T : Type 0} → MemberState T → ℕ

@@ -33,8 +33,9 @@ impl<T> Model for HubLeaf<T> {
 }
 
 impl<T: Drop> HubLeaf<T> {
-    ghost use Rattle.std.specs.Prelude.{◌≡◌, ◌∷◌, [], false, length, IfSome, IfNone};
-    ghost use Rattle.rsx_hub.specs.Leaf.{LeafState, member_of, leaf_spaces};
+    ghost use Rattle.std.specs.Prelude.{◌≡◌, ◌∷◌, [], false, length, min, IfSome, IfNone};
+    ghost use Rattle.rsx_hub.specs.Leaf.{LeafState, member_of, leaf_spaces, leaf_took_all};
+    ghost use Rattle.rsx_hub.specs.Member.{AreMoved};
 
     /// The node that reads the hub with this number by this member, which has not left. Nothing was sent by it yet.
     pub fn new(hub: u32, member: Member<T>) -> HubLeaf<T>
@@ -90,6 +91,14 @@ impl<T: Drop> HubLeaf<T> {
         ensures { result ≡ leaf_spaces self.now }
     {
         self.member.spaces()
+    }
+
+    /// Takes in at most so many items of its hub from the end of a list, the last one first, as far as it has room for them. The others
+    /// stay in the list. It takes no memory.
+    pub fn take_in_many(&mut self, items: &mut Vec<T>, count: u64)
+        ensures { AreMoved (min count (min (leaf_spaces self.old) (length items.old.items))) items.old.items items.new.items (λ xs. self.new ≡ leaf_took_all self.old xs) }
+    {
+        self.member.take_in_many(items, count);
     }
 
     /// Takes out the oldest of the items that it holds, if there is one. All else stays. It takes no memory.

@@ -1,10 +1,10 @@
 //! One reader of a hub.
 
-ghost use Rattle.std.specs.Prelude.{◌≡◌, ◌+◌, ◌<◌, ◌≤◌, ◌↔◌, ◌∷◌, ◌++◌, [], true, false, length, IfOk, IfErr, OnOk, OnErr, IfSome, IfNone, IsTrue, option_map, List, ℕ, max};
+ghost use Rattle.std.specs.Prelude.{◌≡◌, ◌+◌, ◌<◌, ◌≤◌, ◌↔◌, ◌∷◌, ◌++◌, [], true, false, length, IfOk, IfErr, OnOk, OnErr, IfSome, IfNone, IsTrue, option_map, List, ℕ, max, min};
 ghost use Rattle.rsx_types.specs.Stream.{Stream, signal_then};
 ghost use Rattle.rsx_sources.specs.Machine.{front_of};
 ghost use Rattle.rsx_hub.specs.Member as spec;
-ghost use Rattle.rsx_hub.specs.Member.{MemberState, empty_member, GivesFirst, rest, is_reading, takes_items, takes, took, IsNextAt, offered, given, left, IsGiven, rest_before};
+ghost use Rattle.rsx_hub.specs.Member.{MemberState, empty_member, GivesFirst, rest, is_reading, takes_items, takes, took, took_all, AreMoved, IsNextAt, offered, given, left, IsGiven, rest_before};
 ghost use Rattle.rsx_types.specs.declared.signal.Ending.TheVariants.{Open};
 ghost use Rattle.rsx_hub.specs.declared.TheConstants.{LARGEST, MOST_ACCEPTED};
 
@@ -156,6 +156,20 @@ impl<T: Drop> Member<T> {
             }
         }
         Ok(())
+    }
+
+    /// Takes in at most so many items of the hub from the end of a list, the last one first, as far as it has room for them. The others
+    /// stay in the list. It takes no memory.
+    pub fn take_in_many(&mut self, items: &mut Vec<T>, count: u64)
+        ensures { AreMoved (min count (min (spec.spaces self.old) (length items.old.items))) items.old.items items.new.items (λ xs. self.new ≡ took_all self.old xs) }
+    {
+        let fewer = count.min(self.spaces().min(items.len() as u64));
+        for taken in 0..fewer {
+            if let Some(item) = items.pop() {
+                let _ = self.queue.try_push_back(item);
+            }
+        }
+        self.reached += fewer;
     }
 
     /// Which signal it offers: an item, or the hub's ending behind the items.

@@ -84,7 +84,7 @@ impl<T: Drop> Batches for SourceNode<T> {
 
     fn take_in_many(&mut self, items: &mut Vec<T>, count: u64) {
         match self {
-            SourceNode::Hub(node) => node.take_in_many(items, count),
+            SourceNode::Hub(node) => Batches::take_in_many(node, items, count),
             SourceNode::Items(_) | SourceNode::Range(_) => {},
         }
     }

@@ -7,7 +7,7 @@ ghost use Rattle.rsx_hub.specs.Leaf.{leaf_spaces};
 use crate::batch::{Batches, Noted};
 use rsx_hub::HubLeaf;
 use rsx_sources::Machine;
-use rsx_types::{Ops, Signal};
+use rsx_types::Ops;
 use std::alloc::Global;
 
 impl<T: Drop> Batches for HubLeaf<T> {
@@ -74,11 +74,6 @@ impl<T: Drop> Batches for HubLeaf<T> {
     }
 
     fn take_in_many(&mut self, items: &mut Vec<T>, count: u64) {
-        for taken in 0..count {
-            if let Some(item) = items.pop() {
-                // It has room, so the item is not handed back.
-                let _ = self.on_published(Signal::Next(item));
-            }
-        }
+        HubLeaf::take_in_many(self, items, count);
     }
 }
