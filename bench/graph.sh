@@ -40,7 +40,7 @@ nanoseconds() {
 }
 
 printf '%-8s %14s %14s %14s %14s\n' case 'numbers, instr' 'numbers, ns' 'values, instr' 'values, ns'
-for case in range map filter half single buffer scan keys3 keys concat merge zip latest publish window group groups flat fan1 fan8 fan64 beside among fed fedbeside serial1 serial8 serialidle; do
+for case in range map filter half single buffer scan keys3 keys concat merge zip latest publish window group groups flat fan1 fan8 fan64 fanmap beside among fed fedbeside serial1 serial8 serialidle; do
     printf '%-8s %14s %14s %14s %14s\n' "$case" "$(per_item numbers "$case")" "$(nanoseconds numbers "$case")" \
         "$(per_item values "$case")" "$(nanoseconds values "$case")"
 done

@@ -2,7 +2,7 @@
 
 use anyhow::{Result, bail};
 use rsx_model::Expr;
-use rsx_types::{Ops, Stage};
+use rsx_types::{HubId, Ops, Stage};
 use std::alloc::Global;
 
 /// The function `double` of `map`.
@@ -81,5 +81,13 @@ pub fn expression<O: Ops>(alloc: Global, ops: &O, case: &str, count: u64) -> Res
         "groups" => Ok(Expr::Group(THOUSAND_KEYS, Vec::new(alloc), Box::new(alloc, range)?)),
         "flat" => Ok(Expr::Flat(TWICE, CONCURRENCY, Vec::new(alloc), Box::new(alloc, range)?)),
         _ => bail!("no such case"),
+    }
+}
+
+/// The expression of a case over what is published to a hub.
+pub fn reading<T: Drop>(alloc: Global, case: &str, hub: HubId) -> Result<Expr<T>> {
+    match case {
+        "fanmap" => over(alloc, Stage::Map(DOUBLE), Expr::Hub(hub)),
+        _ => Ok(Expr::Hub(hub)),
     }
 }

@@ -9,14 +9,14 @@
 //! `publishOn` with a prefetch of 64); `window` (of 10), `group` (a `groupBy` with three keys), of integers `groups` (one with 1,000 keys)
 //! and, of the items of the demonstration, `flat` (a `flatMap` of each number twice, four lanes at a time), each with an empty chain;
 //! `fan1`, `fan8` and `fan64` (the numbers published to a hub, 64 before each pump, with so many readers that have asked for all);
-//! `beside` (as `fan1`, beside 255 subscriptions of ranges, of which nothing is asked); `among` (as `single`, among 255 of these);
-//! `fed` (`map` feeds a hub with one reader, for each million of the numbers a hub) and `fedbeside` (the same beside 255 of these);
-//! `serial1` and `serial8` (a hub behind a gate, with so many readers, [`crate::gated`]); `serialidle` (as `serial1`, beside 32
-//! subscriptions of ranges, of which nothing is asked).
+//! `fanmap` (as `fan1`, and the reader doubles each); `beside` (as `fan1`, beside 255 subscriptions of ranges, of which nothing is
+//! asked); `among` (as `single`, among 255 of these); `fed` (`map` feeds a hub with one reader, for each million of the numbers a hub)
+//! and `fedbeside` (the same beside 255 of these); `serial1` and `serial8` (a hub behind a gate, with so many readers,
+//! [`crate::gated`]); `serialidle` (as `serial1`, beside 32 subscriptions of ranges, of which nothing is asked).
 //!
 //! How many items came and their sum go to standard output, which is the same in every run, and the least time to standard error.
 
-use crate::cases::expression;
+use crate::cases::{expression, reading};
 use crate::gated::serve;
 use crate::integers::Integers;
 use anyhow::{Result, bail};
@@ -141,7 +141,7 @@ pub fn rest<O: Ops>(alloc: Global, ops: &O, graph: &mut Graph<O>, count: u32) ->
 /// How many readers share a hub in this case, if it is one of a hub.
 fn readers_of(case: &str) -> Option<u32> {
     match case {
-        "fan1" | "beside" => Some(1),
+        "fan1" | "fanmap" | "beside" => Some(1),
         "fan8" => Some(8),
         "fan64" => Some(64),
         _ => None,
@@ -157,12 +157,12 @@ fn gated_readers_of(case: &str) -> Option<u32> {
     }
 }
 
-/// One run of a hub with so many readers, to which the numbers are published, beside so many idle subscriptions.
+/// One run of a case of a hub with so many readers, to which the numbers are published.
 fn publish<O: Ops>(
     alloc: Global,
     ops: O,
+    case: &str,
     readers: u32,
-    idle: u32,
     count: u64,
     budget: u32,
 ) -> Result<Sum>
@@ -170,10 +170,10 @@ where
     O::Item: Weight,
 {
     let mut graph = Graph::new(alloc, ops)?;
-    rest(alloc, &ops, &mut graph, idle)?;
+    rest(alloc, &ops, &mut graph, idle_in(case))?;
     let hub = graph.hub(alloc, HubKind::Multicast, BATCH)?;
     for _ in 0..readers {
-        let sub = graph.subscribe(alloc, &Expr::Hub(hub))?;
+        let sub = graph.subscribe(alloc, &reading(alloc, case, hub)?)?;
         graph.request(sub, i64::MAX)?;
     }
     let mut out = Deliveries::new(alloc);
@@ -199,7 +199,7 @@ where
     O::Item: Weight,
 {
     if let Some(readers) = readers_of(case) {
-        return publish(alloc, ops, readers, idle_in(case), count, budget);
+        return publish(alloc, ops, case, readers, count, budget);
     }
     if let Some(readers) = gated_readers_of(case) {
         return serve(alloc, ops, readers, idle_in(case), count, budget);
