@@ -4,6 +4,7 @@ pub mod Accepting
 pub mod Leaves
 pub mod Lists
 pub mod Moving
+pub mod Offers
 pub mod Readings
 pub mod Rests
 pub mod Spaces

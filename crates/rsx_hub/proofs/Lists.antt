@@ -1,5 +1,5 @@
 -- The first item of a list, the next one of a list, and the last ones.
-use Rattle.std.proofs.Common.{◌≡◌, ℕ, zero, suc, ◌+◌, ◌-◌, List, [], ◌∷◌, ◌++◌, length, reverse, take, drop, Some, None, slice_get, refl, ap, sym, ◌∙◌, arith, append_assoc}
+use Rattle.std.proofs.Common.{◌≡◌, ℕ, zero, suc, ◌+◌, ◌-◌, ◌<◌, List, [], ◌∷◌, ◌++◌, length, reverse, take, drop, Some, None, slice_get, refl, ap, sym, ◌∙◌, arith, append_assoc}
 use Rattle.std.proofs.lemmas.List.{reverse-append, length-take-le}
 use Rattle.std.proofs.lemmas.Option.{slice_get_within}
 use Rattle.circular_buffer.proofs.Places.{slice_get-some}
@@ -15,6 +15,21 @@ module _ {X : Type 0} where
   next_item (y ∷ ys) (suc n) x e =
       let later : suc (n + 1) ≡ suc n + 1 = omega arith in
       next_item ys n x e ∙ ap (λ k. x ∷ drop k (y ∷ ys)) later
+
+  -- an item stands at each place
+  pub is_there : (xs : List X) (n : ℕ) → None ≡ slice_get xs n → n < length xs → ⊥
+  is_there xs n e less =
+      let some = slice_get-some xs n less in
+      let both : None ≡ Some some.0 = e ∙ some.1 in
+      cc
+
+  -- one item more from the front
+  pub take_next : (xs : List X) (n : ℕ) (x : X) → slice_get xs n ≡ Some x → take (n + 1) xs ≡ take n xs ++ x ∷ []
+  take_next [] n x e = cc
+  take_next (y ∷ ys) zero x e = cc
+  take_next (y ∷ ys) (suc n) x e =
+      let later : suc n + 1 ≡ suc (n + 1) = omega arith in
+      ap (λ k. take k (y ∷ ys)) later ∙ ap (λ l. y ∷ l) (take_next ys n x e)
 
   last_at : (xs : List X) (n : ℕ) (x : X) → length xs ≡ suc n → slice_get xs n ≡ Some x → take n xs ++ x ∷ [] ≡ xs
   last_at [] n x l e = absurd (omega (arith, l))

@@ -67,6 +67,10 @@ leaf_took n (Error c) = record n { ending = Failed c }
 abbrev pub leaf_took_all : {T : Type 0} → LeafState T → List T → LeafState T
 leaf_took_all n xs = record n { queue = n.queue ++ xs; reached = n.reached + length xs }
 
+-- where it holds these items
+abbrev pub with_queue : {T : Type 0} → LeafState T → List T → LeafState T
+with_queue n q = record n { queue = q }
+
 -- what it sent and what it holds is what it had before and what its member took in
 abbrev pub leaf_counted : {T : Type 0} → LeafState T → List ℕ → ℕ → Type 0
 leaf_counted n taken sent = n.missed + sent + length n.queue ≡ n.reached + n.before

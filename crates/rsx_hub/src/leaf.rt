@@ -2,7 +2,7 @@
 
 ghost use Rattle.std.specs.Prelude.{◌≡◌};
 
-use crate::{Member, Remaining};
+use crate::{Holds, Member, Remaining};
 use rsx_sources::{Front, Machine, NotMade, NotTaken, Passed};
 use rsx_types::{Ending, NoMemory, Note, Ops, Signal, StreamValue};
 use std::alloc::Global;
@@ -33,7 +33,7 @@ impl<T> Model for HubLeaf<T> {
 }
 
 impl<T: Drop> HubLeaf<T> {
-    ghost use Rattle.std.specs.Prelude.{◌≡◌, ◌∷◌, [], false, length, min, IfSome, IfNone};
+    ghost use Rattle.std.specs.Prelude.{◌≡◌, ◌∷◌, [], false, length, drop, min, option_copied, slice_get, IfSome, IfNone};
     ghost use Rattle.rsx_hub.specs.Leaf.{LeafState, member_of, leaf_spaces, leaf_took_all};
     ghost use Rattle.rsx_hub.specs.Member.{AreMoved};
 
@@ -107,6 +107,38 @@ impl<T: Drop> HubLeaf<T> {
         ensures none { IfNone result ((self.old.queue ≡ []) × (self.new ≡ self.old)) }
     {
         self.member.take()
+    }
+
+    /// The oldest of the items that it holds, if there is one.
+    pub fn first(&self) -> Option<&T>
+        ensures { option_copied result ≡ slice_get self.now.queue 0 }
+    {
+        self.member.first()
+    }
+
+    /// Drops the oldest of the items that it holds, at most so many. All else stays. It takes no memory.
+    #[inline(never)]
+    pub fn skip(&mut self, count: u64)
+        ensures { self.new ≡ record self.old { queue = drop count self.old.queue } }
+    {
+        self.member.skip(count);
+    }
+}
+
+impl<T: Drop> Holds<T> for HubLeaf<T> {
+    ghost use Rattle.rsx_hub.specs.Leaf.{member_of};
+
+    ghost held = { member_of };
+
+    #[inline(never)]
+    fn copy_first<O: Ops<Item = T>>(
+        &self,
+        alloc: Global,
+        ops: &O,
+        count: u64,
+        all: &mut Vec<T>,
+    ) -> Result<(), NoMemory> {
+        self.member.copy_first(alloc, ops, count, all)
     }
 }
 

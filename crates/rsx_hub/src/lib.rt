@@ -39,7 +39,7 @@ pub mod refusal;
 pub use hub::Hub;
 pub use law::reads_on;
 pub use leaf::HubLeaf;
-pub use member::{Member, Remaining};
+pub use member::{Holds, Member, Remaining};
 pub use refusal::{AdmitRefusal, HasEnded, HubRefusal, Rejected, TakeInRefusal};
 
 /// The largest capacity of a hub, and the largest number of items that a new member gets of those taken in before.

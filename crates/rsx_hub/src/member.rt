@@ -1,6 +1,6 @@
 //! One reader of a hub.
 
-ghost use Rattle.std.specs.Prelude.{◌≡◌, ◌+◌, ◌<◌, ◌≤◌, ◌↔◌, ◌∷◌, ◌++◌, [], true, false, length, IfOk, IfErr, OnOk, OnErr, IfSome, IfNone, IsTrue, option_map, List, ℕ, max, min};
+ghost use Rattle.std.specs.Prelude.{◌≡◌, ◌+◌, ◌<◌, ◌≤◌, ◌↔◌, ◌∷◌, ◌++◌, [], true, false, length, drop, IfOk, IfErr, OnOk, OnErr, IfSome, IfNone, IsTrue, option_copied, option_map, slice_get, List, ℕ, max, min};
 ghost use Rattle.rsx_types.specs.Stream.{Stream, signal_then};
 ghost use Rattle.rsx_sources.specs.Machine.{front_of};
 ghost use Rattle.rsx_hub.specs.Member as spec;
@@ -207,6 +207,21 @@ impl<T: Drop> Member<T> {
         self.queue.pop_front()
     }
 
+    /// The oldest of the items that wait, if there is one.
+    pub(crate) fn first(&self) -> Option<&T>
+        ensures { option_copied result ≡ slice_get self.now.queue 0 }
+    {
+        self.queue.front()
+    }
+
+    /// Drops the oldest of the items that wait, at most so many. All else stays.
+    pub(crate) fn skip(&mut self, count: u64)
+        ensures { self.new ≡ record self.old { queue = drop count self.old.queue } }
+    {
+        let left = (self.queue.len() as u64).saturating_sub(count);
+        self.queue.truncate_front(left as usize);
+    }
+
     fn take_ending(&mut self) -> Option<Signal<T>>
         requires { self.old.queue ≡ [] }
         ensures signal { result ≡ offered self.old }
@@ -360,5 +375,51 @@ impl<T: Drop> Remaining<T> for Member<T> {
             all.push(copy)?;
         }
         Ok(StreamValue::new(all, ending))
+    }
+}
+
+/// A reader of a hub, of whose items copies can be made.
+pub trait Holds<T: Drop> {
+    ghost held: { Self → MemberState T };
+
+    ghost use Rattle.std.specs.Prelude.{◌≡◌, ◌+◌, ◌≤◌, ◌++◌, length, take, OnOk};
+    ghost use Rattle.rsx_hub.specs.Member.{IsMember};
+
+    /// Puts copies of the oldest of the items that wait behind `all`, at most so many.
+    ///
+    /// # Errors
+    /// [`NoMemory`] where a growth was refused.
+    fn copy_first<O: Ops<Item = T>>(
+        &self,
+        alloc: Global,
+        ops: &O,
+        count: u64,
+        all: &mut Vec<T>,
+    ) -> Result<(), NoMemory>
+        ensures ok { OnOk result (all.new.items ≡ all.old.items ++ take count (held self.now).queue) }
+        ensures most { length all.new.items ≤ length all.old.items + count }
+
+        // What holds of each member: who looks at its items may see what giving them out makes of it.
+        ensures member { IsMember (held self.now) };
+}
+
+impl<T: Drop> Holds<T> for Member<T> {
+    ghost held = { λ m. m };
+
+    fn copy_first<O: Ops<Item = T>>(
+        &self,
+        alloc: Global,
+        ops: &O,
+        count: u64,
+        all: &mut Vec<T>,
+    ) -> Result<(), NoMemory> {
+        let fewer = count.min(self.queue.len() as u64) as usize;
+        all.reserve(fewer)?;
+        for at in 0..fewer {
+            if let Some(item) = self.queue.get(at) {
+                all.push_reserved(ops.copy(alloc, item)?);
+            }
+        }
+        Ok(())
     }
 }

@@ -6,7 +6,7 @@ use Rattle.rsx_rooted.proofs.HubLeaves.{leaf_machine}
 use Rattle.rsx_rooted.proofs.OneByOne.{passed_in, popped_in}
 use Rattle.rsx_rooted.specs.Items.{ArePassed, ArePopped, IsIn, IsOutBy}
 use Rattle.rsx_rooted.specs.Machines.{plain_machine, range_machine}
-use Rattle.rsx_rooted.specs.Went.{plain_went, range_went}
+use Rattle.rsx_rooted.specs.Went.{leaf_went, plain_went, range_went}
 use Rattle.rsx_rooted.specs.declared.batch.After.TheVariants.{Counted, Picked, Latest as LatestAfter}
 use Rattle.rsx_rooted.specs.declared.batch.Noted.{Noted}
 use Rattle.rsx_plain.specs.declared.node.PlainNode.{PlainNode}
@@ -102,6 +102,19 @@ pub popped_range : {T : Type 0} (m : Meaning T) (n : RangeNode T) (noted : Noted
 popped_range m n noted xs h (Range k) w = popped_in Range (IsOutBy range_machine m noted.by_step) (IsOutBy source_machine m noted.by_step) (out_range_by m noted.by_step) xs n k (h k w)
 popped_range m n noted xs h (Items k) w = absurd w
 popped_range m n noted xs h (Hub k) w = absurd w
+
+no_leaf_step : {T : Type 0} (m : Meaning T) (s : LeafState T) (asked sent : ℕ) (t : LeafState T) → IsStepOf leaf_machine m s asked sent t → ⊥
+no_leaf_step m s asked sent t (inl p) = true≢false (sym p.1.can)
+no_leaf_step m s asked sent t (inr r) = true≢false (sym r.can)
+
+out_hub_by : {T : Type 0} (m : Meaning T) (by : Bool) (s : LeafState T) (x : T) (t : LeafState T) → IsOutBy leaf_machine m by s x t → IsOutBy source_machine m by (Hub s) x (Hub t)
+out_hub_by m false s x t h = out_hub m s x t h
+out_hub_by m true s x t h = λ asked sent less. let o = h asked sent less in absurd (no_leaf_step m s asked sent o.0 o.1)
+
+pub popped_hub : {T : Type 0} (m : Meaning T) (n : LeafState T) (noted : Noted T) (xs : List T) → ((new : LeafState T) → leaf_went n noted.after new → ArePopped (IsOutBy leaf_machine m noted.by_step) n xs new) → (new : SourceNode T) → source_went (Hub n) noted new → ArePopped (IsOutBy source_machine m noted.by_step) (Hub n) xs new
+popped_hub m n noted xs h (Hub k) w = popped_in Hub (IsOutBy leaf_machine m noted.by_step) (IsOutBy source_machine m noted.by_step) (out_hub_by m noted.by_step) xs n k (h k w)
+popped_hub m n noted xs h (Items k) w = absurd w
+popped_hub m n noted xs h (Range k) w = absurd w
 
 pub popped_source : {T : Type 0} (m : Meaning T) (n : SourceNode T) (noted : Noted T) (xs : List T) → ((new : SourceNode T) → source_went n noted new → ArePopped (IsOutBy source_machine m noted.by_step) n xs new) → (new : AnyNode T) → any_went (Source n) noted new → ArePopped (IsOutBy kind_machine m noted.by_step) (Source n) xs new
 popped_source m n noted xs h (Source k) w = popped_in Source (IsOutBy source_machine m noted.by_step) (IsOutBy kind_machine m noted.by_step) (out_source_by m noted.by_step) xs n k (h k w)

@@ -1,8 +1,8 @@
 -- What nodes of any kind are after a batch.
 use Rattle.std.specs.Prelude.{◌≡◌, ℕ, if◌then◌else◌}
-use Rattle.rsx_rooted.specs.Went.{plain_went, range_went, sender_went}
+use Rattle.rsx_rooted.specs.Went.{leaf_went, plain_went, range_went, sender_went}
 use Rattle.rsx_rooted.specs.declared.batch.After.{After}
-use Rattle.rsx_rooted.specs.declared.batch.After.TheVariants.{Range as RangeAfter, Plain as PlainAfter, Counted, Picked, Latest as LatestAfter}
+use Rattle.rsx_rooted.specs.declared.batch.After.TheVariants.{Range as RangeAfter, Plain as PlainAfter, Counted, Picked, Latest as LatestAfter, Gave}
 use Rattle.rsx_rooted.specs.declared.batch.Noted.{Noted}
 use Rattle.rsx_merging.specs.Concat.{after_all_passed}
 use Rattle.rsx_combining.specs.Latest.{LatestState}
@@ -15,12 +15,14 @@ use Rattle.rsx_kinds.specs.declared.any_node.AnyNode.TheVariants.{Source, Plain,
 use Rattle.rsx_kinds.specs.declared.several_node.SeveralNode.{SeveralNode}
 use Rattle.rsx_kinds.specs.declared.several_node.SeveralNode.TheVariants.{Concat, Merge, Latest}
 use Rattle.rsx_kinds.specs.declared.source_node.SourceNode.{SourceNode}
-use Rattle.rsx_kinds.specs.declared.source_node.SourceNode.TheVariants.{Range}
+use Rattle.rsx_kinds.specs.declared.source_node.SourceNode.TheVariants.{Range, Hub}
 
--- a source: a range went on as it noted
+-- a source: a range, or a node that reads a hub, went on as it noted
 abbrev pub source_went : {T : Type 0} → SourceNode T → Noted T → SourceNode T → Type 0
 source_went (Range n) noted (Range k) = range_went n noted.after k
 source_went (Range n) noted new = ⊥
+source_went (Hub n) noted (Hub k) = leaf_went n noted.after k
+source_went (Hub n) noted new = ⊥
 source_went old noted new = new ≡ old
 
 -- a concat counted the items that it took, so many
@@ -30,6 +32,7 @@ concat_after n took (PlainAfter k) = n
 concat_after n took Counted = after_all_passed n took
 concat_after n took (Picked i) = n
 concat_after n took (LatestAfter i x) = n
+concat_after n took (Gave k) = n
 
 -- a merge took in so many items of an input and picked them, where they can go through it
 abbrev pub merge_after : {T : Type 0} → MergeNode T → ℕ → After T → MergeNode T
@@ -38,6 +41,7 @@ merge_after n took (RangeAfter k) = n
 merge_after n took (PlainAfter k) = n
 merge_after n took Counted = n
 merge_after n took (LatestAfter i x) = n
+merge_after n took (Gave k) = n
 
 -- so did a combineLatest, and it keeps the last of them
 abbrev pub latest_after : {T : Type 0} → LatestState T → ℕ → After T → LatestState T
@@ -46,6 +50,7 @@ latest_after n took (RangeAfter k) = n
 latest_after n took (PlainAfter k) = n
 latest_after n took Counted = n
 latest_after n took (Picked i) = n
+latest_after n took (Gave k) = n
 
 -- a node of several inputs: a concat did, a merge, and a combineLatest
 abbrev pub several_went : {T : Type 0} → SeveralNode T → Noted T → SeveralNode T → Type 0

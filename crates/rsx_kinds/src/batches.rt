@@ -1,6 +1,6 @@
-//! Batches through nodes of any kind. Ranges make them, and plain operators, a concat, a merge, a combineLatest and a `publishOn` with an
-//! empty queue pass them on. A node that reads a hub takes in several of its items at once, and as
-//! the root of its tree it lets several out at once.
+//! Batches through nodes of any kind. Ranges make them, and nodes that read a hub, of items that are copied at next to no cost; and plain
+//! operators, a concat, a merge, a combineLatest and a `publishOn` with an empty queue pass them on. A node that reads a hub takes in
+//! several of its items at once, and as the root of its tree it lets several out at once, with no copy.
 
 ghost use Rattle.std.specs.Prelude.{◌≡◌, [], true};
 ghost use Rattle.rsx_kinds.specs.Spaces.{any_spaces, source_spaces};
@@ -24,7 +24,8 @@ impl<T: Drop> Batches for SourceNode<T> {
     fn most(&self) -> u64 {
         match self {
             SourceNode::Range(node) => node.most(),
-            SourceNode::Items(_) | SourceNode::Hub(_) => 0,
+            SourceNode::Hub(node) => node.most(),
+            SourceNode::Items(_) => 0,
         }
     }
 
@@ -37,7 +38,8 @@ impl<T: Drop> Batches for SourceNode<T> {
     ) -> Option<Noted<T>> {
         match self {
             SourceNode::Range(node) => node.peek(alloc, ops, most, items),
-            SourceNode::Items(_) | SourceNode::Hub(_) => None,
+            SourceNode::Hub(node) => node.peek(alloc, ops, most, items),
+            SourceNode::Items(_) => None,
         }
     }
 
@@ -71,7 +73,8 @@ impl<T: Drop> Batches for SourceNode<T> {
     {
         match self {
             SourceNode::Range(node) => node.go_on(noted),
-            SourceNode::Items(_) | SourceNode::Hub(_) => {},
+            SourceNode::Hub(node) => node.go_on(noted),
+            SourceNode::Items(_) => {},
         }
     }
 

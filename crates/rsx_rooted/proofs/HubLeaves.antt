@@ -1,13 +1,17 @@
--- The node that reads a hub takes in several items of it at once.
-use Rattle.std.proofs.Common.{◌≡◌, ℕ, suc, ◌+◌, ◌<◌, ◌≤◌, min, false, List, [], ◌∷◌, ◌++◌, length, length-append, reverse, refl, ap, sym, ◌∙◌, append_assoc, append-nil, arith}
+-- The node that reads a hub takes in several items of it at once, and lets several out.
+use Rattle.std.proofs.Common.{◌≡◌, ℕ, zero, suc, ◌+◌, ◌<◌, ◌≤◌, min, false, List, [], ◌∷◌, ◌++◌, length, length-append, reverse, take, drop, refl, ap, sym, ◌∙◌, subst, append_assoc, append-nil, arith}
 use Rattle.std.proofs.lemmas.List.{length-reverse, reverse-append, reverse-reverse}
+use Rattle.rsx_hub.proofs.Offers.{first_out, still_member}
 use Rattle.rsx_hub.proofs.Spaces.{item_taken, spaces_after, spaces_room}
-use Rattle.rsx_hub.specs.Leaf.{LeafState, leaf_comes_out, leaf_counted, leaf_popped, leaf_reads, leaf_rooms, leaf_shown, leaf_spaces, leaf_took, leaf_took_all, leaf_waiting}
-use Rattle.rsx_hub.specs.Member.{AreMoved}
+use Rattle.rsx_hub.specs.Leaf.{LeafState, leaf_comes_out, leaf_counted, leaf_popped, leaf_reads, leaf_rooms, leaf_shown, leaf_spaces, leaf_took, leaf_took_all, leaf_waiting, member_of, with_queue}
+use Rattle.rsx_hub.specs.Member.{AreMoved, IsMember}
 use Rattle.rsx_types.specs.declared.note.Note.TheVariants.{Nothing}
 use Rattle.rsx_types.specs.declared.signal.Signal.TheVariants.{Next}
 use Rattle.rsx_sources.specs.declared.machine.Machine.{Ghosts as Machine}
+use Rattle.rsx_sources.specs.Prelude.{Meaning}
+use Rattle.rsx_tree.specs.Fetched.{IsOut}
 use Rattle.rsx_tree.specs.Runs.{Leads}
+use Rattle.rsx_rooted.specs.Items.{ArePopped}
 use Rattle.rsx_rooted.specs.Taking.{IsItemTaken, IsTakenOff}
 
 -- the meaning of such a node
@@ -95,3 +99,23 @@ all_taken {T} count n n' old new moved before xs all len fits =
   where
     within : (a c d : ℕ) → a ≡ c → c ≤ d → a ≤ d
     within a c d e l = omega (arith, e, l)
+
+-- ---- items that it gives
+
+-- those that it has held longest come out of it, so many as there are
+pub all_out : {T : Type 0} (m : Meaning T) (k : ℕ) (q : List T) (n new : LeafState T) → n.queue ≡ q → IsMember (member_of n) → new ≡ with_queue n (drop k q) → ArePopped (IsOut leaf_machine m) n (take k q) new
+all_out m zero q n new holds held is = is ∙ ap (with_queue n) (sym holds)
+all_out m (suc k) [] n new holds held is = is ∙ ap (with_queue n) (sym holds)
+all_out {T} m (suc k) (x ∷ q) n new holds held is =
+    let here : with_queue n (x ∷ q) ≡ n = ap (with_queue n) (sym holds) in
+    let there : IsMember (member_of (with_queue n (x ∷ q))) = subst (λ l. IsMember (member_of (with_queue n l))) holds held in
+    let out = first_out m n x q there in
+    let P : LeafState T → Type 0 = λ s. IsOut leaf_machine m s x (with_queue n q) in
+    (with_queue n q, subst P here (out.0, out.1), all_out m k q (with_queue n q) new refl (still_member n x q there) is)
+
+-- so do the copies of them, once they are gone
+pub given_all : {T : Type 0} (m : Meaning T) (k : ℕ) (n : LeafState T) (old items : List T) → old ≡ [] → items ≡ old ++ take k n.queue → IsMember (member_of n) →
+    (new : LeafState T) → new ≡ with_queue n (drop k n.queue) → ArePopped (IsOut leaf_machine m) n items new
+given_all {T} m k n old items none is held new gone =
+    let all : take k n.queue ≡ items = sym (is ∙ ap (λ l. l ++ take k n.queue) none) in
+    subst (λ l. ArePopped (IsOut leaf_machine m) n l new) all (all_out m k n.queue n new refl held gone)

@@ -28,6 +28,8 @@ pub enum After<T> {
     Picked(u64),
     /// The same, which took them in at this input and picked them, the last of which is this.
     Latest(u64, T),
+    /// The same, without so many of the items that it held, the oldest.
+    Gave(u64),
 }
 
 /// What a node noted of a batch that was tried.

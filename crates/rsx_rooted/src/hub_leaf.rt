@@ -1,24 +1,34 @@
-//! The node that reads a hub takes in several items of it at once, and lets several that wait out at once. It makes no batch: a node
-//! above it may decline an item, and items that wait can't be copied for that.
+//! The node that reads a hub takes in several items of it at once, and lets several that wait out at once. A node above it may decline
+//! an item of a batch, so it makes a batch of copies, and only of items so small that a copy costs next to nothing.
 
 ghost use Rattle.std.specs.Prelude.{◌≡◌};
 ghost use Rattle.rsx_hub.specs.Leaf.{leaf_spaces};
+ghost use Rattle.rsx_rooted.specs.Went.{leaf_went};
 
-use crate::batch::{Batches, Noted};
-use rsx_hub::HubLeaf;
+use crate::batch::{After, Batches, Noted};
+use rsx_hub::{Holds, HubLeaf};
 use rsx_sources::Machine;
 use rsx_types::Ops;
 use std::alloc::Global;
+use std::mem::size_of_val;
+
+/// The most bytes of an item that is copied for a batch: a number has no more. What has more may well own memory.
+const MOST_COPIED: usize = 8;
 
 impl<T: Drop> Batches for HubLeaf<T> {
-    ghost went = { λ old noted new. new ≡ old };
+    ghost went = { λ old noted new. leaf_went old noted.after new };
 
     ghost spaces_of = { leaf_spaces };
 
+    #[inline]
     fn most(&self) -> u64 {
-        0
+        match self.first() {
+            Some(item) if size_of_val(item) <= MOST_COPIED => self.len() as u64,
+            _ => 0,
+        }
     }
 
+    #[inline(always)]
     fn peek<O: Ops<Item = T>>(
         &self,
         alloc: Global,
@@ -26,7 +36,15 @@ impl<T: Drop> Batches for HubLeaf<T> {
         most: u64,
         items: &mut Vec<T>,
     ) -> Option<Noted<T>> {
-        None
+        match self.copy_first(alloc, ops, most, items) {
+            Ok(()) => Some(Noted {
+                took: 0,
+                steps: 0,
+                by_step: false,
+                after: After::Gave(most),
+            }),
+            Err(_) => None,
+        }
     }
 
     fn try_pass<O: Ops<Item = T>>(
@@ -65,9 +83,14 @@ impl<T: Drop> Batches for HubLeaf<T> {
         true
     }
 
+    #[inline(always)]
     fn go_on(&mut self, noted: Noted<T>)
-        ensures { self.new ≡ self.old }
-    {}
+        ensures { leaf_went self.old noted.after self.new }
+    {
+        if let After::Gave(count) = noted.after {
+            self.skip(count);
+        }
+    }
 
     fn spaces(&self) -> u64 {
         HubLeaf::spaces(self)
