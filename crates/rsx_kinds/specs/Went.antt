@@ -2,7 +2,7 @@
 use Rattle.std.specs.Prelude.{◌≡◌, ℕ, if◌then◌else◌}
 use Rattle.rsx_rooted.specs.Went.{leaf_went, plain_went, range_went, sender_went}
 use Rattle.rsx_rooted.specs.declared.batch.After.{After}
-use Rattle.rsx_rooted.specs.declared.batch.After.TheVariants.{Range as RangeAfter, Plain as PlainAfter, Counted, Picked, Latest as LatestAfter, Gave}
+use Rattle.rsx_rooted.specs.declared.batch.After.TheVariants.{Plain as PlainAfter, Counted, Picked, Latest as LatestAfter, Gave}
 use Rattle.rsx_rooted.specs.declared.batch.Noted.{Noted}
 use Rattle.rsx_merging.specs.Concat.{after_all_passed}
 use Rattle.rsx_combining.specs.Latest.{LatestState}
@@ -27,7 +27,6 @@ source_went old noted new = new ≡ old
 
 -- a concat counted the items that it took, so many
 abbrev pub concat_after : {T : Type 0} → ConcatNode T → ℕ → After T → ConcatNode T
-concat_after n took (RangeAfter k) = n
 concat_after n took (PlainAfter k) = n
 concat_after n took Counted = after_all_passed n took
 concat_after n took (Picked i) = n
@@ -37,7 +36,6 @@ concat_after n took (Gave k) = n
 -- a merge took in so many items of an input and picked them, where they can go through it
 abbrev pub merge_after : {T : Type 0} → MergeNode T → ℕ → After T → MergeNode T
 merge_after n took (Picked i) = if merges_through n i took then after_all_merged n i took else n
-merge_after n took (RangeAfter k) = n
 merge_after n took (PlainAfter k) = n
 merge_after n took Counted = n
 merge_after n took (LatestAfter i x) = n
@@ -46,7 +44,6 @@ merge_after n took (Gave k) = n
 -- so did a combineLatest, and it keeps the last of them
 abbrev pub latest_after : {T : Type 0} → LatestState T → ℕ → After T → LatestState T
 latest_after n took (LatestAfter i x) = if rows_through n i took then rows_counted n i took x else n
-latest_after n took (RangeAfter k) = n
 latest_after n took (PlainAfter k) = n
 latest_after n took Counted = n
 latest_after n took (Picked i) = n

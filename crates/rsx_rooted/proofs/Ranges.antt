@@ -1,5 +1,5 @@
 -- Ranges with the same numbers.
-use Rattle.std.proofs.Common.{◌≡◌, ℕ, ◌<◌, ◌≤◌, ◌^◌, ℤ, pos, ◌+ℤ◌, ◌≤ℤ◌, ap, sym, ◌∙◌, subst}
+use Rattle.std.proofs.Common.{◌≡◌, ℕ, ◌+◌, ◌<◌, ◌≤◌, ◌^◌, min, arith, ℤ, pos, ◌+ℤ◌, ◌≤ℤ◌, ap, sym, ◌∙◌, subst}
 use Rattle.std.proofs.Math.Bridge.{le_prop}
 use denote.Struct.Props.{props}
 use Rattle.rsx_sources.specs.declared.range.RangeNode.{RangeNode}
@@ -21,3 +21,7 @@ same_range {T} a b f c t =
     known : (w : a.at ≤ a.count) (l : a.count ≤ 1000000) (u : 0 < a.count → (a.first +ℤ pos a.count) ≤ℤ pos (2 ^ 63)) → build a.first a.count a.at w l u ≡ a
     known w l u =
         ap (λ x. build a.first a.count a.at x l u) (le_prop w a.within) ∙ (ap (λ x. build a.first a.count a.at a.within x u) (le_prop l a.limited) ∙ ap (λ x. build a.first a.count a.at a.within a.limited x) (fits_prop a.first a.count u a.fits))
+
+-- it has come as far as the numbers that it gave are many
+pub as_many_on : (at given made count now all : ℕ) → given ≡ made → now ≡ at + made → all ≡ count → now ≤ all → min (at + given) count ≡ now
+as_many_on at given made count now all same on of within = omega (arith, same, on, of, within)

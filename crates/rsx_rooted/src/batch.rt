@@ -5,7 +5,7 @@ ghost use Rattle.rsx_rooted.specs.Made.{moves_of};
 ghost use Rattle.rsx_rooted.specs.declared.batch.Noted.{Noted as NotedSpec};
 
 use rsx_plain::PlainNode;
-use rsx_sources::{Machine, RangeNode};
+use rsx_sources::Machine;
 use rsx_types::Ops;
 use std::alloc::Global;
 
@@ -18,8 +18,6 @@ pub const FEWEST_IN_BATCH: u64 = 8;
 /// What a node is after a batch.
 #[derive(Drop)]
 pub enum After<T> {
-    /// This range.
-    Range(RangeNode<T>),
     /// This plain operator.
     Plain(PlainNode<T>),
     /// The same, which counted the items that it took in.
@@ -28,7 +26,7 @@ pub enum After<T> {
     Picked(u64),
     /// The same, which took them in at this input and picked them, the last of which is this.
     Latest(u64, T),
-    /// The same, without so many of the items that it held, the oldest.
+    /// The same, without so many of the items that it offered, one after the other.
     Gave(u64),
 }
 

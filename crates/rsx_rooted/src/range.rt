@@ -45,7 +45,7 @@ impl<T: Drop> Batches for RangeNode<T> {
             took: 0,
             steps: 0,
             by_step: false,
-            after: After::Range(node),
+            after: After::Gave(items.len() as u64),
         })
     }
 
@@ -63,8 +63,8 @@ impl<T: Drop> Batches for RangeNode<T> {
     fn go_on(&mut self, noted: Noted<T>)
         ensures { range_went self.old noted.after self.new }
     {
-        if let After::Range(node) = noted.after {
-            *self = node;
+        if let After::Gave(count) = noted.after {
+            self.at = self.at.saturating_add(count).min(self.count);
         }
     }
 
