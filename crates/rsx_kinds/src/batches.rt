@@ -29,6 +29,7 @@ impl<T: Drop> Batches for SourceNode<T> {
         }
     }
 
+    #[inline(always)]
     fn peek<O: Ops<Item = T>>(
         &self,
         alloc: Global,
@@ -230,6 +231,7 @@ impl<T: Drop> Batches for AnyNode<T> {
         }
     }
 
+    #[inline(always)]
     fn peek<O: Ops<Item = T>>(
         &self,
         alloc: Global,
