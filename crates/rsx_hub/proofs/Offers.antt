@@ -1,8 +1,8 @@
 -- What comes out of a node that reads a hub, of the items that it holds.
-use Rattle.std.proofs.Common.{◌≡◌, ℕ, suc, ◌+◌, ◌≤◌, false, List, ◌∷◌, length, option_map, refl, ap, sym, ◌∙◌, subst, arith}
+use Rattle.std.proofs.Common.{◌≡◌, ℕ, suc, ◌+◌, ◌≤◌, false, List, ◌∷◌, length, refl, arith}
 use Rattle.rsx_types.specs.declared.note.Note.TheVariants.{Ended, Nothing, Picks}
-use Rattle.rsx_sources.specs.Prelude.{Incoming, IsItemOut, LetsGo, Meaning, Next, Note, StaysAlike}
-use Rattle.rsx_hub.specs.Member.{IsGiven, IsMember, MemberState}
+use Rattle.rsx_sources.specs.Prelude.{IsItemOut, LetsGo, Meaning, Next, StaysAlike}
+use Rattle.rsx_hub.specs.Member.{IsMember}
 use Rattle.rsx_hub.specs.Leaf.{LeafState, leaf_comes_out, leaf_counted, leaf_popped, leaf_reads, leaf_waiting, member_of, with_queue}
 use Rattle.rsx_hub.specs.Laws.{leaf_popped_alike}
 

@@ -1,7 +1,7 @@
 -- The laws of a node that reads a hub.
-use Rattle.std.specs.Prelude.{◌≡◌, ℕ, ◌<◌, Bool, true, false, List, [], ◌∷◌, Option, Some, None, option_map, refl}
-use Rattle.std.proofs.Common.{inl, inr, ap, sym}
-use Rattle.rsx_sources.specs.Prelude.{Note, Ending, Open, Done, Failed, Signal, Next, Complete, Error, Meaning, Stream, items_then, AreWithin, IsHungry, IsReading, ends_input, Incoming, front_of, quiet, Reading, published_at, StaysAlike}
+use Rattle.std.specs.Prelude.{◌≡◌, ℕ, ◌<◌, true, false, List, [], ◌∷◌, Some, None, option_map, refl}
+use Rattle.std.proofs.Common.{inr, ap, sym}
+use Rattle.rsx_sources.specs.Prelude.{Note, Ending, Open, Done, Failed, Signal, Next, Complete, Error, Meaning, Stream, items_then, AreWithin, IsHungry, ends_input, Incoming, front_of, quiet, Reading, published_at, StaysAlike}
 use Rattle.rsx_hub.specs.Member.{behind, without}
 use Rattle.rsx_hub.specs.Waiting.{first_waiting, first_shown}
 use Rattle.rsx_hub.specs.Leaf.{LeafState, leaf_comes_out, leaf_waiting, leaf_shown, leaf_popped, leaf_reads, leaf_counted, reading_of}

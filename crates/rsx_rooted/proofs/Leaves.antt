@@ -1,15 +1,13 @@
 -- The leaves of an expression that read a hub, level by level.
-use Rattle.std.proofs.Common.{◌≡◌, ℕ, ℤ, ◌+◌, ◌<◌, ◌≤◌, Bool, true, false, nat_eq, List, [], ◌∷◌, ◌++◌, length, get_or, map, drop, Vec, Box, Global, refl, ap, ◌∙◌, append_assoc, append-nil, arith, suc, sym}
+use Rattle.std.proofs.Common.{◌≡◌, ℕ, ◌+◌, ◌<◌, ◌≤◌, Bool, true, false, nat_eq, List, [], ◌∷◌, length, get_or, map, drop, Vec, Global, refl, ap, ◌∙◌, arith}
 use Rattle.std.specs.Prelude.{if◌then◌else◌}
 use Rattle.rsx_types.proofs.Lists.{drop_read}
-use Rattle.rsx_sources.specs.Prelude.{HubId, Stage}
-use Rattle.std.proofs.Math.Seq.{drop-cons}
 use Rattle.rsx_model.specs.declared.expr.Expr.{Expr}
 use Rattle.rsx_model.specs.declared.expr.Expr.TheOpen.{Expr-F}
 use Rattle.rsx_model.specs.declared.expr.Expr.TheOpen as layer
 use Rattle.rsx_model.specs.declared.expr.Expr.TheFolds.{map-Expr, fold_out-Expr}
-use Rattle.rsx_model.specs.declared.expr.Expr.TheVariants.{Concat, Merge, MergeDelay, Zip, Latest, Items, Range, Hub}
-use Rattle.rsx_model.specs.declared.expr.Expr.TheViews.{outs-Concat, outs-Merge, outs-MergeDelay, outs-Zip, outs-Latest, out-Expr, Plain, Window, On}
+use Rattle.rsx_model.specs.declared.expr.Expr.TheVariants.{Concat, Merge, MergeDelay, Zip, Latest}
+use Rattle.rsx_model.specs.declared.expr.Expr.TheViews.{outs-Concat, outs-Merge, outs-MergeDelay, outs-Zip, outs-Latest, out-Expr}
 use Rattle.rsx_model.specs.Shape.{children, nodes, sum_of}
 use Rattle.rsx_model.proofs.Unfold.{Each, by_children, children-map, nodes_out}
 use Rattle.rsx_rooted.specs.Leaves.{leaves_on, reads_here}

@@ -6,7 +6,7 @@ use Rattle.rsx_tree.specs.declared.node.Node.{Node}
 use Rattle.rsx_tree.specs.Chosen.{IsChosen}
 use Rattle.rsx_tree.specs.Handed.{IsHanded, IsNextOf}
 use Rattle.rsx_tree.specs.Reads.{IsTreeReadAt}
-use Rattle.rsx_tree.specs.Tree.{comes_out, notes, IsLetGo}
+use Rattle.rsx_tree.specs.Tree.{comes_out, IsLetGo}
 use Rattle.rsx_rooted.specs.Flow.{AreFor, Flows}
 use Rattle.rsx_rooted.proofs.Linked.{then_append}
 

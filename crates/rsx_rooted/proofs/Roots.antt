@@ -1,5 +1,5 @@
 -- As for two trees with a link between them, where the link stands for the root of the tree and all below it.
-use Rattle.std.proofs.Common.{◌≡◌, ℕ, ◌+◌, List, [], ◌∷◌, ◌++◌, length, refl, ap, sym, ◌∙◌, arith, Option, Some, None, option_map, slice_get}
+use Rattle.std.proofs.Common.{◌≡◌, ℕ, List, [], ◌∷◌, ◌++◌, length, refl, ap, sym, ◌∙◌, arith, Option, Some, None, option_map, slice_get}
 use Rattle.rsx_sources.specs.Prelude.{Meaning, notes_then, Stream, ended_by, signals_then, Note, Nothing, Open, Signal, incoming_of}
 use Rattle.rsx_sources.specs.declared.machine.Machine.{Ghosts as Machine}
 use Rattle.rsx_tree.specs.declared.node.Node.{Node}

@@ -3,7 +3,7 @@ use Rattle.std.proofs.Common.{◌≡◌, ℕ, zero, suc, ◌+◌, ◌≤◌, min
 use Rattle.std.proofs.Math.Nat.{zero-add}
 use Rattle.std.proofs.lemmas.List.{append-nil}
 use Rattle.std.specs.Box.{with_value}
-use Rattle.rsx_sources.specs.Prelude.{Reading, reads_hub}
+use Rattle.rsx_sources.specs.Prelude.{reads_hub}
 use Rattle.rsx_sources.specs.declared.machine.Machine.{Ghosts as Machine}
 use Rattle.rsx_types.specs.declared.signal.Signal.TheVariants.{Next}
 use Rattle.rsx_tree.specs.declared.edge.Edge.{Edge}
@@ -11,7 +11,7 @@ use Rattle.rsx_tree.specs.declared.inputs.Inputs.{Inputs, End, More'}
 use Rattle.rsx_tree.specs.declared.inputs.Inputs.TheViews.{More}
 use Rattle.rsx_tree.specs.declared.node.Node.{Node}
 use Rattle.rsx_tree.specs.Edges.{is_live}
-use Rattle.rsx_tree.specs.Handed.{IsNodeHanded, IsRowHanded, IsTakenWhere, OneOf, has_room, has_room_in, reader_at, readers_in, room_at}
+use Rattle.rsx_tree.specs.Handed.{IsNodeHanded, IsRowHanded, IsTakenWhere, OneOf, has_room_in, reader_at, readers_in, room_at}
 use Rattle.rsx_tree.specs.Runs.{Leads}
 use Rattle.rsx_tree.proofs.Changes.{Rest}
 use Rattle.rsx_tree.proofs.Runs.{leads_lift}

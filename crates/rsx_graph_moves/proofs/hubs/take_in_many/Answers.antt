@@ -1,6 +1,5 @@
 use Rattle.std.proofs.Common.{◌∙◌}
 use Rattle.rsx_tree.proofs.Runs.{leads_by_lift}
-use Rattle.rsx_tree.specs.Runs.{LeadsBy}
 use Rattle.rsx_graph_state.specs.AtOnce.{IsAccept}
 use Rattle.rsx_graph_state.specs.Moves.{rows_of}
 use Rattle.rsx_graph_state.proofs.Places.{unfed_there}

@@ -1,4 +1,4 @@
-use Rattle.std.proofs.Common.{◌≡◌, true, false, ap, sym, ◌∙◌, subst, rules}
+use Rattle.std.proofs.Common.{◌≡◌, true, false, rules}
 use Rattle.rsx_tree.specs.Edges.{is_live}
 use Rattle.rsx_rooted.proofs.TakenOff.{end_taken, row_past, row_over}
 use Rattle.rsx_rooted.proofs.taking.+hands.Goals as goal

@@ -1,4 +1,4 @@
-use Rattle.std.proofs.Common.{◌≡◌, ◌∙◌}
+use Rattle.std.proofs.Common.{◌∙◌}
 use Rattle.rsx_hub.proofs.Leaves.{room_is}
 use Rattle.rsx_hub.proofs.leaf.HubLeafMachine.has_room.Goals as goal
 

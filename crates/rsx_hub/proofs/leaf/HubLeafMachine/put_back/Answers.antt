@@ -1,7 +1,7 @@
-use Rattle.std.proofs.Common.{◌≡◌, subst, sym}
+use Rattle.std.proofs.Common.{subst, sym}
 use Rattle.rsx_types.specs.declared.signal.Signal.TheVariants.{Next}
 use Rattle.rsx_hub.specs.Leaf.{leaf_popped}
-use Rattle.rsx_hub.proofs.Leaves.{leaf_of, put_back}
+use Rattle.rsx_hub.proofs.Leaves.{put_back}
 use Rattle.rsx_hub.proofs.leaf.HubLeafMachine.put_back.Goals as goal
 
 pub returns-in-Next : goal.returns-in-Next

@@ -1,5 +1,4 @@
-use Rattle.std.proofs.Common.{◌≡◌, ◌∙◌, [], refl, sym, rules}
-use Rattle.rsx_sources.specs.Prelude.{Stream, published_at, Open}
+use Rattle.std.proofs.Common.{◌∙◌, refl}
 use Rattle.rsx_hub.proofs.Leaves.{residual_is, published_in, published_past}
 use Rattle.rsx_hub.proofs.leaf.HubLeafMachine.residual.Goals as goal
 

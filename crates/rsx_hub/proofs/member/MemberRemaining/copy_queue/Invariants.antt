@@ -1,4 +1,4 @@
-use Rattle.std.proofs.Common.{◌≡◌, ◌++◌, take}
+use Rattle.std.proofs.Common.{◌≡◌, ◌++◌}
 use Rattle.rsx_hub.proofs.member.MemberRemaining.copy_queue.Given as goal
 
 abbrev pub invariant-loop-item : goal.invariant-loop-item

@@ -1,4 +1,4 @@
-use Rattle.std.proofs.Common.{◌≡◌, ◌+◌, ◌≤◌, min, rules, sym, ◌∙◌, arith}
+use Rattle.std.proofs.Common.{◌≡◌, ◌+◌, ◌≤◌, rules, sym, ◌∙◌, arith}
 use Rattle.std.specs.Vec.{vec_len, vec_capacity}
 use Rattle.rsx_tree.specs.Fetched.{IsOut}
 use Rattle.rsx_rooted.specs.Machines.{range_machine}

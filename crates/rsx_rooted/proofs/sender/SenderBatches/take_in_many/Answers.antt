@@ -1,4 +1,3 @@
-use Rattle.std.proofs.Common.{rules}
 use Rattle.rsx_queued.specs.declared.sender.Sender.TheVariants.{Direct}
 use Rattle.rsx_rooted.specs.Taking.{IsItemTaken}
 use Rattle.rsx_rooted.proofs.Senders.{sender_machine, taken_direct}
