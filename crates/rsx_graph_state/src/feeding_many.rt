@@ -44,10 +44,10 @@ pub fn may_send_many<N: Nodes<Item = T> + Batches, T: Drop>(
 }
 
 /// Makes moves of the feed with the index `at` that bring many items to its hub, the Sends of them into the hub among these, and each node
-/// of a subscription that reads the hub gets the items. It answers how many moves those are, at most `most`: none, where it doesn't do so
-/// at once. It does not where the way through the feed isn't straight ([`Part::try_batch`](rsx_pipe::Part::try_batch)), where a node that
-/// reads the hub has little room, where the hub keeps items for new members or has ended, where a feed reads it, and where memory was
-/// wanting.
+/// of a subscription that reads the hub gets the items. It answers how many moves those are, at most `most`: 0 where it doesn't do so at
+/// once, and then nothing has changed. When it does is no promise: where the way through the feed is straight
+/// ([`Part::try_batch`](rsx_pipe::Part::try_batch)), each node that reads the hub has room for some items, no feed reads it, and the hub
+/// keeps no items for new members and has not ended, but for want of memory.
 ///
 /// It looks at no subscription that is skipped.
 pub fn send_many<N: Nodes<Item = O::Item> + Batches, O: Ops>(
