@@ -1,27 +1,28 @@
 -- A lane is picked, or Main: the value under the choice, and the counts.
-use Rattle.std.proofs.Common.{◌≡◌, ℕ, zero, suc, ◌^◌, ◌<◌, ◌≤◌, ◌&&◌, if◌then◌else◌, nat_eq, nat_lt, Bool, true, false, List, [], ◌∷◌, map, length, slice_set, slice_get, Option, Some, None, option_map, refl, ap, sym, ◌∙◌, subst, arith, inl, inr, ◌⊎◌}
-use Rattle.std.specs.Prelude.{not, is_some}
+use Rattle.std.proofs.Common.{◌≡◌, ℕ, zero, suc, ◌^◌, ◌<◌, ◌≤◌, ◌&&◌, if◌then◌else◌, nat_eq, nat_lt, Bool, true, false, List, [], ◌∷◌, map, length, slice_set, slice_get, Option, Some, None, option_map, refl, ap, sym, ◌∙◌, subst, arith, inl}
+use Rattle.std.specs.Prelude.{not, is_some, IfSome, IfNone}
 use Rattle.std.proofs.lemmas.Bool.Decides.{nat_tests}
-use Rattle.rsx_sources.specs.Prelude.{Picks, Note, note_then, Cause, Done, Failed, Signal, Next, Complete, Error, Stage, Meaning, Stream, ended_by, items_then, CountsStep, ends_input, is_nil, Records}
+use Rattle.std.proofs.lemmas.Option.{same_Some}
+use Rattle.rsx_sources.specs.Prelude.{Picks, Note, note_then, Cause, Done, Failed, Signal, Next, Complete, Error, Stage, Meaning, Stream, ended_by, items_then, CountsStep, ends_input, is_nil, Records, IsSteppedOut}
 use Rattle.rsx_values.specs.declared.record.Run.{Run}
-use Rattle.rsx_values.specs.Prelude.{InputLeft, next_of, main_input}
+use Rattle.rsx_values.specs.Prelude.{InputLeft, next_of, main_input, merge_inputs, written}
 use Rattle.rsx_values.specs.declared.limits.TheConstants.{MAIN, MOST_KEYS}
-use Rattle.rsx_queued.proofs.Merged.{item_chosen, completion_chosen, last_chosen, failure_chosen}
-use Rattle.rsx_queued.proofs.Outputs.{empty_is, not_ended}
+use Rattle.rsx_queued.proofs.Merged.{item_chosen, completion_chosen, last_chosen, failure_chosen, picks_compose}
+use Rattle.rsx_queued.proofs.Outputs.{empty_is, item_leaves, not_ended}
 use Rattle.rsx_queued.specs.declared.output.Output.{Output}
 use Rattle.rsx_queued.specs.declared.output.Output.TheVariants.{Empty, Waiting}
-use Rattle.rsx_queued.specs.Prelude.{IsFirst, merge_behind, is_empty}
+use Rattle.rsx_queued.specs.Prelude.{IsFirst, merge_behind, is_empty, is_over, has_ending}
 use Rattle.rsx_grouping.proofs.Picks.{lane_picked, next_behind, none_there}
 use Rattle.rsx_grouping.proofs.Tables.{keys_set, picked_goes_on}
-use Rattle.rsx_grouping.specs.Lane.{lane_left, state_left, is_gone, is_gone_state, is_running, completes, after_pick, can_pick_of, PickGoesOn}
+use Rattle.rsx_grouping.specs.Lane.{lane_left, state_left, is_gone, is_gone_state, is_running, completes, after_pick, can_pick_of, PickGoesOn, TakesFirst}
 use Rattle.rsx_grouping.specs.Rows.{keys_of, are_gone, can_pick_at, GoOn}
-use Rattle.rsx_grouping.specs.Table.{lanes_there, lanes_to_come, TakesFirstAt, CommitsAt}
+use Rattle.rsx_grouping.specs.Table.{lanes_there, lanes_to_come, TakesFirstAt, CommitsAt, IsItemPickedAt}
 use Rattle.rsx_grouping.specs.declared.lane.Lane.{Lane}
 use Rattle.rsx_grouping.specs.declared.lane.LaneState.{LaneState}
 use Rattle.rsx_grouping.specs.declared.lane.LaneState.TheVariants.{Running, Completed as LaneCompleted, Failing as LaneFailing, Gone}
 use Rattle.rsx_grouping.specs.declared.lane.LanePick.{LanePick}
 use Rattle.rsx_grouping.specs.declared.table.KeyedLane.{KeyedLane}
-use Rattle.rsx_grouping.specs.GroupBy.{keyed_left, main_left, lanes_and_main, inputs_left, group_comes_out, group_counted, group_ended, group_done, group_picks, can_pick_from, is_complete, unless_complete, after_signal}
+use Rattle.rsx_grouping.specs.GroupBy.{keyed_left, main_left, lanes_and_main, inputs_left, group_comes_out, group_waiting, group_recording, group_recorded, IsPoppedGroup, group_counted, group_ended, group_done, group_picks, can_pick_from, is_complete, unless_complete, after_signal}
 use Rattle.rsx_grouping.specs.MainState.{is_coming, is_done, is_taken}
 use Rattle.rsx_grouping.specs.declared.main_state.MainState.{MainState}
 use Rattle.rsx_grouping.specs.declared.main_state.MainState.TheVariants.{Coming, Completed, Failing, Taken}
@@ -286,3 +287,62 @@ lane_counts {T} m old new i asked sent p choices table picks other takes on comm
 
 pub lane_within : {T : Type 0} (n : GroupByNode T) (i asked sent : ℕ) → group_picks n i asked sent ≡ true → (i ≡ MAIN → ⊥) → i < length n.table
 lane_within n i asked sent picks other = let k = pickable n i asked sent picks other in k.within
+
+-- ---- an item of a lane is picked, and goes out at once
+
+-- where one more may be sent
+item_picks : {T : Type 0} (n : GroupByNode T) (i : ℕ) (r : KeyedLane T) (asked sent : ℕ) → is_empty n.output ≡ true → i < MAIN → slice_get n.table i ≡ Some r → is_nil r.lane.waiting ≡ false → is_gone r.lane ≡ false → sent < asked → group_picks n i asked sent ≡ true
+item_picks {T} n i r asked sent empty small at waits there lt =
+    let other : nat_eq i MAIN ≡ false = grind (arith, nat_tests) in
+    let less : nat_lt sent asked ≡ true = grind (arith, nat_tests) in
+    rw (empty, other, at, waits) (can_go r.lane.state there less)
+  where
+    can_go : (s : LaneState T) → is_gone_state s ≡ false → nat_lt sent asked ≡ true → can_pick_of s false (is_done n.main) asked sent ≡ true
+    can_go (Running c) k l = l
+    can_go LaneCompleted k l = l
+    can_go (LaneFailing f) k l = l
+    can_go Gone k l = cc
+
+pub item_stepped : {T : Type 0} (m : Meaning T) (old : GroupByNode T) (table : List (KeyedLane T)) (choices : List Run) (asked sent : ℕ) (x : T) → is_empty old.output ≡ true → sent < asked → IsItemPickedAt m old.table old.choices x table choices →
+    IsSteppedOut (group_comes_out m) (group_waiting m) group_picks (λ n a s. false) (λ n a s k. ⊥) IsPoppedGroup group_recording group_recorded group_counted group_ended group_done old asked sent (Some x) (record old { table = table; choices = choices })
+item_stepped {T} m old table choices asked sent x empty lt p =
+    let i : ℕ = p.place in
+    let r : KeyedLane T = p.row in
+    let pick : LanePick T = record { signal = Next x; lane = None } in
+    let new : GroupByNode T = record old { table = table; choices = choices } in
+    let mid : GroupByNode T = record new { output = Waiting (Next x) } in
+    let left : old.output ≡ Empty = empty_is old.output empty in
+    let other : i ≡ MAIN → ⊥ = λ e. below_main i p.small e in
+    let picks : group_picks old i asked sent ≡ true = item_picks old i r asked sent empty p.small p.at p.item.waits p.item.there lt in
+    let takes : TakesFirstAt m old.table i pick = λ q at. subst (λ (z : KeyedLane T). TakesFirst m z.key z.lane pick) (same_Some r q (sym p.at ∙ at)) p.item.first in
+    let commits : CommitsAt old.table i None table = λ q at. p.left ∙ ap (λ l. slice_set old.table i (record { key = r.key; lane = l })) p.item.left ∙ ap (λ (z : KeyedLane T). slice_set old.table i (record { key = z.key; lane = after_pick None z.lane })) (same_Some r q (sym p.at ∙ at)) in (
+      mid,
+      inl (
+        i,
+        record {
+          enabled = picks;
+          value = lane_out m old mid i asked sent pick choices table picks other takes commits refl;
+          notes = ap Picks p.choice;
+          composes = picks_compose (written old.choices) (i ∷ []);
+          counts = lane_counts m old mid i asked sent pick choices table picks other takes tt commits refl;
+        },
+      ),
+      record {
+        waited = refl;
+        popped_out = record { out = (refl, left); function = refl; stages = refl; table = refl; main = refl; choices = refl; got = refl };
+        value = λ inc further. item_leaves (Waiting (Next x)) old.output x (λ cs. merge_inputs cs (inputs_left m old.function old.stages.items table old.main inc.first)) (λ cs. merge_inputs cs []) refl left further;
+        notes = refl;
+        counts = (ap has_ending left, (λ taken n h. record { not_over = ap is_over left; some_left = h.some_left; few = h.few; goes_on = h.goes_on; items = h.items; at = h.at; counts = h.counts }), λ j d. d);
+      },
+    )
+  where
+    below_main : (j : ℕ) → j < MAIN → j ≡ MAIN → ⊥
+    below_main j below e = omega arith
+
+-- or nothing has changed
+pub may_step : {T : Type 0} (m : Meaning T) (old : GroupByNode T) (table : List (KeyedLane T)) (choices : List Run) (asked sent : ℕ) (o : Option T) → is_empty old.output ≡ true → sent < asked →
+    IfSome o (λ x. IsItemPickedAt m old.table old.choices x table choices) → IfNone o ((table ≡ old.table) × (choices ≡ old.choices)) →
+    IsSteppedOut (group_comes_out m) (group_waiting m) group_picks (λ n a s. false) (λ n a s k. ⊥) IsPoppedGroup group_recording group_recorded group_counted group_ended group_done old asked sent o (record old { table = table; choices = choices })
+may_step m old table choices asked sent (Some x) empty lt some none = item_stepped m old table choices asked sent x empty lt some
+may_step {T} m old table choices asked sent None empty lt some none =
+    ap (λ (t : List (KeyedLane T)). record old { table = t; choices = choices }) none.0 ∙ ap (λ (cs : List Run). record old { choices = cs }) none.1

@@ -11,11 +11,11 @@ use Rattle.rsx_plain.specs.Emission.{emission_then}
 use Rattle.rsx_plain.specs.Moves.{has_ended}
 use Rattle.rsx_plain.specs.declared.prepared.Emission.{Emission}
 use Rattle.rsx_plain.specs.Chain.{chain_from, chain_over}
-use Rattle.rsx_plain.specs.declared.chain.ChainState.{ChainState}
+use Rattle.rsx_plain.specs.declared.chain.ChainState.{ChainState, End}
 use Rattle.rsx_values.specs.Group.{tagged_items}
 use Rattle.rsx_queued.specs.Input.{IsFirst}
 use Rattle.rsx_plain.proofs.Rests.{chain_ends}
-use Rattle.rsx_grouping.specs.Lane.{state_left, lane_left, state_after, state_ended, ending_signal, is_gone, is_gone_state, is_quiet, TakesItem, TakesOne, CompletesWith, IsPrepared, without_next, GoesOn}
+use Rattle.rsx_grouping.specs.Lane.{state_left, lane_left, state_after, state_ended, ending_signal, is_gone, is_gone_state, is_quiet, TakesItem, TakesOne, CompletesWith, IsPrepared, IsItemPicked, without_next, GoesOn}
 use Rattle.rsx_grouping.specs.declared.lane.Lane.{Lane}
 use Rattle.rsx_grouping.specs.declared.lane.LanePick.{LanePick}
 use Rattle.rsx_grouping.specs.declared.lane.LaneState.{LaneState}
@@ -48,6 +48,10 @@ none_waits {T} l c is quiet = nothing l.waiting (rw is at quiet)
 pub lane_takes : {T : Type 0} (m : Meaning T) (old new : Lane T) (c d : ChainState T) (x : T) (out : Emission T) → old.waiting ≡ [] → old.state ≡ Running c → TakesItem m c x out d → new.waiting ≡ option_to_list out.item → new.state ≡ state_after d out.ending →
     TakesOne m old x new
 lane_takes m old new c d x out none is takes waits state k v = rw (none, is, waits, state) (ap (λ w. Some (tagged_items m k w)) (takes v) ∙ runs m k d [] out.item out.ending v)
+
+-- without operators the item comes out as it is
+pub lane_keeps : {T : Type 0} (m : Meaning T) (old new : Lane T) (x : T) → old.waiting ≡ [] → old.state ≡ Running End → new.waiting ≡ x ∷ [] → new.state ≡ old.state → TakesOne m old x new
+lane_keeps m old new x none is waits state = lane_takes m old new End End x (record { item = Some x; ending = Open }) none is (λ v. refl) waits (state ∙ is)
 
 not_gone : {T : Type 0} (c : ChainState T) (e : Ending) (s : LaneState T) → s ≡ state_after c e → is_gone_state s ≡ false
 not_gone c Open s h = ap is_gone_state h
@@ -119,6 +123,25 @@ prepares_item {T} m k old x p there waits signal lane v done =
     first_there : (ws : List T) → Some x ≡ slice_get ws 0 → (xs : List T) × (ws ≡ x ∷ xs)
     first_there [] h = cc
     first_there (w ∷ ws) h = (ws, ap (λ z. z ∷ ws) (sym (same_Some x w h)))
+
+-- it is picked and leaves at once
+pub item_picked : {T : Type 0} (m : Meaning T) (k : ℕ) (old : Lane T) (x y : T) (o : Option T) (ys : List T) → is_gone old ≡ false → Some x ≡ slice_get old.waiting 0 → y ≡ m.tagged k x → o ≡ slice_get old.waiting 0 → old.waiting ≡ option_to_list o ++ ys →
+    IsItemPicked m k old y (record { state = old.state; waiting = ys })
+item_picked {T} m k old x y o ys there front tagged first left = record {
+  waits = some_waits old.waiting front;
+  there = there;
+  first = prepares_item m k old x (record { signal = Next y; lane = None }) there front (ap Next tagged) refl;
+  left = without old.waiting o front first left;
+}
+  where
+    some_waits : (xs : List T) → Some x ≡ slice_get xs 0 → is_nil xs ≡ false
+    some_waits [] h = cc
+    some_waits (w ∷ ws) h = refl
+
+    without : (xs : List T) (p : Option T) → Some x ≡ slice_get xs 0 → p ≡ slice_get xs 0 → xs ≡ option_to_list p ++ ys → record { state = old.state; waiting = ys } ≡ without_next old.state xs
+    without [] p h f l = cc
+    without (w ∷ ws) None h f l = cc
+    without (w ∷ ws) (Some z) h f l = let same : ys ≡ ws = cc in ap (λ zs. record { state = old.state; waiting = zs }) same
 
 -- nothing waited
 pub leaves : {T : Type 0} (s : LaneState T) (xs ys : List T) (o : Option T) → o ≡ slice_get xs 0 → xs ≡ option_to_list o ++ ys → is_some o ≡ false → record { state = Gone; waiting = ys } ≡ without_next s xs

@@ -1,10 +1,12 @@
 -- An item with its key comes in at the lanes.
-use Rattle.std.proofs.Common.{◌≡◌, ℕ, zero, suc, ◌+◌, ◌<◌, Bool, true, false, nat_eq, List, [], ◌∷◌, ◌++◌, map, length, slice_set, slice_get, slice_index_or, Option, Some, None, Result, Ok, Err, OnOk, refl, ap, sym, ◌∙◌, subst, arith, length-append}
+use Rattle.std.proofs.Common.{◌≡◌, ℕ, zero, suc, ◌+◌, ◌<◌, ◌^◌, Bool, true, false, nat_eq, List, [], ◌∷◌, ◌++◌, map, length, slice_set, slice_get, slice_index_or, Option, Some, None, Result, Ok, Err, OnOk, refl, ap, sym, ◌∙◌, subst, arith, length-append}
 use Rattle.std.specs.Set.{is_member}
 use Rattle.std.proofs.lemmas.Option.{same_Some}
 use Rattle.std.proofs.lemmas.Bool.{and_parts, eq-eqb, or_parts}
 use Rattle.rsx_sources.specs.Prelude.{Stage, Meaning, chained, Stream, item_then}
 use Rattle.rsx_values.specs.Group.{keyed_items, keyed_then, placed}
+use Rattle.rsx_values.specs.Record.{written}
+use Rattle.rsx_values.specs.declared.record.Run.{Run}
 use Rattle.rsx_grouping.specs.GroupBy.{lanes_and_main, main_left, TakesItem}
 use Rattle.rsx_grouping.specs.MainState.{is_coming}
 use Rattle.rsx_grouping.specs.declared.main_state.MainState.{MainState}
@@ -14,9 +16,9 @@ use Rattle.rsx_queued.specs.Inputs.{here}
 use Rattle.rsx_collections.proofs.Places.{key_there}
 use Rattle.rsx_grouping.proofs.SeenKeys.{other_key, stays_seen, last_seen, distinct_more}
 use Rattle.rsx_grouping.specs.Keys.{AreDistinct}
-use Rattle.rsx_grouping.specs.Lane.{lane_left, TakesOne, BeginsWith, is_quiet, after_pick, without_next, GoesOn, PickGoesOn}
+use Rattle.rsx_grouping.specs.Lane.{lane_left, TakesOne, BeginsWith, is_quiet, after_pick, without_next, GoesOn, PickGoesOn, IsItemPicked}
 use Rattle.rsx_grouping.specs.Rows.{keys_of, are_quiet, GoOn}
-use Rattle.rsx_grouping.specs.Table.{fresh_keys, lanes_there, lanes_to_come, TakesKeyed, CommitsAt}
+use Rattle.rsx_grouping.specs.Table.{fresh_keys, lanes_there, lanes_to_come, TakesKeyed, CommitsAt, IsItemPickedAt}
 use Rattle.rsx_grouping.specs.declared.lane.Lane.{Lane}
 use Rattle.rsx_grouping.specs.declared.table.KeyedLane.{KeyedLane}
 
@@ -225,6 +227,25 @@ commits {T} now rows i r lane new view is after q at =
     got [] j h = cc
     got (p ∷ ls) zero h = same_Some p q h
     got (p ∷ ls) (suc j) h = got ls j h
+
+-- an item was picked of it
+pub picked_there : {T : Type 0} (m : Meaning T) (now rows : List (KeyedLane T)) (i : ℕ) (r : KeyedLane T) (cs cs' : List Run) (x : T) (new : Lane T) → rows ≡ now → i < length rows → length rows < 2 ^ 64 → r ≡ slice_index_or rows i r → IsItemPicked m r.key r.lane x new → written cs' ≡ written cs ++ i ∷ [] →
+    IsItemPickedAt m now cs x (slice_set rows i (record { key = r.key; lane = new })) cs'
+picked_there {T} m now rows i r cs cs' x new view within few is item choice = record {
+  place = i;
+  row = r;
+  lane = new;
+  at = ap (λ z. slice_get z i) (sym view) ∙ got rows i within is;
+  small = omega arith;
+  item = item;
+  left = ap (λ z. slice_set z i (record { key = r.key; lane = new })) view;
+  choice = choice;
+}
+  where
+    got : (ls : List (KeyedLane T)) (j : ℕ) → j < length ls → r ≡ slice_index_or ls j r → slice_get ls j ≡ Some r
+    got [] j lt e = absurd (omega (arith, lt))
+    got (q ∷ ls) zero lt e = ap Some (sym e)
+    got (q ∷ ls) (suc j) lt e = got ls j (omega (arith, lt)) e
 
 -- ---- no chain is over
 

@@ -1,6 +1,6 @@
 -- What still comes out of a lane, and what a pick takes of that.
 use Rattle.std.specs.Prelude.{◌≡◌, ⊤, ℕ, Bool, true, false, ◌&&◌, ◌||◌, not, nat_lt, List, [], ◌∷◌, map, Option, Some, None, option_map}
-use Rattle.rsx_sources.specs.Prelude.{Ending, Open, Done, Failed, Signal, Complete, Error, Stage, Meaning, chained, Stream, ended_by, item_then, items_then, is_nil}
+use Rattle.rsx_sources.specs.Prelude.{Ending, Open, Done, Failed, Signal, Next, Complete, Error, Stage, Meaning, chained, Stream, ended_by, item_then, items_then, is_nil}
 use Rattle.rsx_plain.specs.Emission.{emission_then}
 use Rattle.rsx_plain.specs.declared.prepared.Emission.{Emission}
 use Rattle.rsx_plain.specs.Chain.{chain_from, chain_over}
@@ -141,3 +141,10 @@ TakesFirst {T} m k old p = (v : Stream T) → (completes old ≡ true → v ≡ 
 
 abbrev pub IsPrepared : {T : Type 0} → Meaning T → ℕ → Lane T → LanePick T → Type 0
 IsPrepared m k old p = TakesFirst m k old p
+
+-- an item waited of a lane whose ending was not picked; the pick takes it, with the tag, and leaves the lane without it
+pub record IsItemPicked {T : Type 0} (m : Meaning T) (k : ℕ) (old : Lane T) (x : T) (new : Lane T) : Type 0 where
+  pub waits : is_nil old.waiting ≡ false
+  pub there : is_gone old ≡ false
+  pub first : IsPrepared m k old (record { signal = Next x; lane = None })
+  pub left : new ≡ after_pick None old

@@ -1,10 +1,12 @@
 -- What still comes out of all lanes of a `groupBy`, of those that are there and of those that aren't yet.
-use Rattle.std.specs.Prelude.{◌≡◌, ℕ, suc, nat_eq, if◌then◌else◌, List, [], ◌∷◌, ◌++◌, map, length, Option, Some, slice_get, slice_set}
+use Rattle.std.specs.Prelude.{◌≡◌, ℕ, suc, ◌<◌, nat_eq, if◌then◌else◌, List, [], ◌∷◌, ◌++◌, map, length, Option, Some, slice_get, slice_set}
 use Rattle.std.specs.Set.{is_member}
 use Rattle.rsx_sources.specs.Prelude.{Stage, Meaning, Stream, item_then}
-use Rattle.rsx_values.specs.Prelude.{InputLeft, numbered, of_key, group_lane}
+use Rattle.rsx_values.specs.Prelude.{InputLeft, written, numbered, of_key, group_lane}
+use Rattle.rsx_values.specs.declared.limits.TheConstants.{MAIN}
+use Rattle.rsx_values.specs.declared.record.Run.{Run}
 use Rattle.rsx_queued.specs.Inputs.{here}
-use Rattle.rsx_grouping.specs.Lane.{lane_left, after_pick, TakesFirst}
+use Rattle.rsx_grouping.specs.Lane.{lane_left, after_pick, TakesFirst, IsItemPicked}
 use Rattle.rsx_grouping.specs.Rows.{keys_of}
 use Rattle.rsx_grouping.specs.declared.lane.Lane.{Lane}
 use Rattle.rsx_grouping.specs.declared.lane.LanePick.{LanePick}
@@ -39,3 +41,14 @@ TakesFirstAt {T} m rows i p = (r : KeyedLane T) → slice_get rows i ≡ Some r 
 -- the lane at a place, after a pick
 abbrev pub CommitsAt : {T : Type 0} → List (KeyedLane T) → ℕ → Option (Lane T) → List (KeyedLane T) → Type 0
 CommitsAt {T} old i lane new = (r : KeyedLane T) → slice_get old i ≡ Some r → new ≡ slice_set old i (record { key = r.key; lane = after_pick lane r.lane })
+
+-- an item was picked of the lane at some place, and left the lanes with the tag; the choice of that place was recorded behind the others
+pub record IsItemPickedAt {T : Type 0} (m : Meaning T) (old : List (KeyedLane T)) (choices : List Run) (x : T) (new : List (KeyedLane T)) (choices' : List Run) : Type 0 where
+  pub place : ℕ
+  pub row : KeyedLane T
+  pub lane : Lane T
+  pub at : slice_get old place ≡ Some row
+  pub small : place < MAIN
+  pub item : IsItemPicked m row.key row.lane x lane
+  pub left : new ≡ slice_set old place (record { key = row.key; lane = lane })
+  pub choice : written choices' ≡ written choices ++ place ∷ []

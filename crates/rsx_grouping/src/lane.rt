@@ -1,18 +1,20 @@
 //! One lane.
 
-ghost use Rattle.std.specs.Prelude.{◌≡◌, ◌+◌, ◌≤◌, true, false, [], ◌++◌, length, is_some, vec_len, vec_capacity, IfOk, IfErr, OnOk, OnErr};
+ghost use Rattle.std.specs.Prelude.{◌≡◌, ◌+◌, ◌≤◌, true, false, [], ◌∷◌, ◌++◌, length, is_some, vec_len, vec_capacity, IfOk, IfErr, IfSome, IfNone, OnOk, OnErr};
 ghost use Rattle.std.specs.Option.{option_to_list};
 ghost use Rattle.rsx_plain.specs.Moves.{has_ended};
-ghost use Rattle.rsx_plain.specs.declared.chain.ChainState.{ChainState as ChainStateSpec};
+ghost use Rattle.rsx_plain.specs.declared.chain.ChainState.{ChainState as ChainStateSpec, End};
 ghost use Rattle.rsx_sources.specs.Slot.{is_nil};
+ghost use Rattle.rsx_values.specs.Record.{written};
 ghost use Rattle.rsx_plain.specs.Chain.{chain_over};
-ghost use Rattle.rsx_grouping.specs.Lane.{state_after, state_ended, ending_signal, is_gone, is_quiet, can_pick, after_pick, GoesOn, PickGoesOn, TakesItem, Begins, TakesOne, BeginsWith, CompletesWith, IsPrepared};
+ghost use Rattle.rsx_grouping.specs.Lane.{state_after, state_ended, ending_signal, is_gone, is_quiet, can_pick, after_pick, GoesOn, PickGoesOn, TakesItem, Begins, TakesOne, BeginsWith, CompletesWith, IsPrepared, IsItemPicked};
 ghost use Rattle.rsx_grouping.specs.declared.lane.Lane.{Lane as LaneSpec};
 ghost use Rattle.rsx_grouping.specs.declared.lane.LaneState.TheVariants.{Running, Gone};
 
 use crate::waiting::WaitingItems;
 use rsx_plain::{ChainState, Chaining, Emission, NewChain};
 use rsx_types::{Cause, Ending, NoMemory, Ops, Signal, Stage, StreamValue};
+use rsx_values::Record;
 use std::alloc::Global;
 
 /// Where the chain of a lane is.
@@ -238,6 +240,17 @@ impl<T: Drop> Lane<T> {
         matches!(self.state, LaneState::Gone)
     }
 
+    /// Whether its chain runs and has no operators, so that an item comes out of it as it is.
+    fn is_bare(&self) -> bool
+        ensures { result ≡ true → self.now.state ≡ Running End }
+    {
+        match &self.state {
+            LaneState::Running(ChainState::End) => true,
+            LaneState::Running(ChainState::Stage(_, _)) => false,
+            LaneState::Completed | LaneState::Failing(_) | LaneState::Gone => false,
+        }
+    }
+
     /// Puts what came out of the chain into the list, in which nothing waits.
     fn put_out(&mut self, out: Emission<T>)
         requires { self.old.waiting ≡ [] }
@@ -335,6 +348,21 @@ pub trait Laning<T: Drop> {
         requires { is_gone (lane self.now) ≡ false }
         ensures ok { IfOk result (λ p. IsPrepared (O.meaning ops.now) key (lane self.now) p) }
         ensures goes_on { IfOk result (λ p. PickGoesOn p.lane) };
+
+    /// Picks the item that waits first, in one go: takes it out with the tag of the lane's key, and records the choice of the lane, which
+    /// has this number. Where no item waits, where the ending was picked, and for want of memory it answers nothing, and nothing has
+    /// changed.
+    fn pick_item<O: Ops<Item = T>>(
+        &mut self,
+        alloc: Global,
+        ops: &O,
+        key: u64,
+        number: u64,
+        choices: &mut Record,
+    ) -> Option<T>
+        ensures item { IfSome result (λ x. IsItemPicked (O.meaning ops.now) key (lane self.old) x (lane self.new)) }
+        ensures choice { IfSome result (λ x. written choices.new ≡ written choices.old ++ number ∷ []) }
+        ensures none { IfNone result ((self.new ≡ self.old) × (choices.new ≡ choices.old)) };
 }
 
 impl<T: Drop> Laning<T> for Lane<T> {
@@ -369,6 +397,10 @@ impl<T: Drop> Laning<T> for Lane<T> {
         ensures err { IfErr result (λ x. x ≡ item) }
         ensures same { OnErr result (self.new ≡ self.old) }
     {
+        if self.is_bare() {
+            self.waiting.put(Some(item));
+            return Ok(());
+        }
         let LaneState::Running(chain) = &mut self.state else {
             return Ok(());
         };
@@ -409,5 +441,35 @@ impl<T: Drop> Laning<T> for Lane<T> {
             }),
             LaneState::Gone => unreachable!(),
         }
+    }
+
+    fn pick_item<O: Ops<Item = T>>(
+        &mut self,
+        alloc: Global,
+        ops: &O,
+        key: u64,
+        number: u64,
+        choices: &mut Record,
+    ) -> Option<T>
+        ensures item { IfSome result (λ x. IsItemPicked (O.meaning ops.now) key self.old x self.new) }
+        ensures choice { IfSome result (λ x. written choices.new ≡ written choices.old ++ number ∷ []) }
+        ensures none { IfNone result ((self.new ≡ self.old) × (choices.new ≡ choices.old)) }
+    {
+        if self.is_gone() {
+            return None;
+        }
+        let item = match self.waiting.front() {
+            Some(item) => item,
+            None => return None,
+        };
+        let tagged = match ops.tag(alloc, key, item) {
+            Ok(tagged) => tagged,
+            Err(_) => return None,
+        };
+        if choices.push(number).is_err() {
+            return None;
+        }
+        let _untagged = self.waiting.pop();
+        Some(tagged)
     }
 }

@@ -7,9 +7,10 @@
 //!
 //! A [`Lane`] is a chain of plain operators with what it has put out and what waits until it is the lane's turn. The lanes of a
 //! `groupBy` are numbered by the order in which their keys come first ([`LaneTable`]). A pick takes the next signal of a lane in two
-//! steps: [`Laning::prepare`] makes it ready and can want memory, and [`Lane::commit`] can't. The definitions stand in `specs/`: `Lane`
-//! (what still comes out of a lane, given what still comes in at it) and `Table` (what still comes out of all lanes, of those that are
-//! there and of those that aren't yet). [`Resting`] computes that over copies.
+//! steps: [`Laning::prepare`] makes it ready and can want memory, and [`Lane::commit`] can't. An item that waits can be picked in one go
+//! ([`Laning::pick_item`]). The definitions stand in `specs/`: `Lane` (what still comes out of a lane, given what still comes in at it) and
+//! `Table` (what still comes out of all lanes, of those that are there and of those that aren't yet). [`Resting`] computes that over
+//! copies.
 //!
 //! # groupBy
 //!

@@ -469,6 +469,21 @@ impl<T: Drop> Machine for GroupByNode<T> {
         Err(NotMade::NotEnabled)
     }
 
+    /// Picks the one lane in which something may wait, where an item waits there.
+    #[inline]
+    fn step_item<O: Ops<Item = T>>(
+        &mut self,
+        alloc: Global,
+        ops: &O,
+        asked: u64,
+        sent: u64,
+    ) -> Option<T> {
+        if sent >= asked || !self.output.is_empty() {
+            return None;
+        }
+        self.table.pick_item(alloc, ops, &mut self.choices)
+    }
+
     fn want(&self, input: u64, asked: u64, sent: u64) -> u64 {
         if sent < asked && self.table.is_quiet() {
             return saturating_total(self.got, 1);

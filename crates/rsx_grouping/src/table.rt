@@ -6,14 +6,15 @@ ghost use Rattle.rsx_types.specs.declared.stage.Stage.{Stage as StageSpec};
 ghost use Rattle.rsx_values.specs.Group.{see};
 ghost use Rattle.rsx_grouping.specs.Keys.{AreDistinct, IsPlaceOf};
 ghost use Rattle.rsx_grouping.specs.Lane.{PickGoesOn};
-ghost use Rattle.rsx_grouping.specs.Rows.{keys_of, are_quiet, are_gone, is_gone_at, is_quiet_at, is_told, can_pick_at, GoOn, waiting_after};
-ghost use Rattle.rsx_grouping.specs.Table.{TakesKeyed, TakesFirstAt, CommitsAt};
+ghost use Rattle.rsx_grouping.specs.Rows.{keys_of, are_quiet, are_quiet_beside, are_gone, is_gone_at, is_quiet_at, is_told, can_pick_at, GoOn, waiting_after};
+ghost use Rattle.rsx_grouping.specs.Table.{TakesKeyed, TakesFirstAt, CommitsAt, IsItemPickedAt};
 ghost use Rattle.rsx_grouping.specs.declared.table.KeyedLane.{KeyedLane as KeyedLaneSpec};
 ghost use Rattle.rsx_grouping.specs.declared.table.MayWait.TheVariants as MayWait;
 
 use crate::keys::{KeyPlace, LaneKeys};
 use crate::lane::{Lane, LanePick, Laning};
 use rsx_types::{NoMemory, Ops, Stage};
+use rsx_values::Record;
 use std::alloc::Global;
 use std::marker::Model;
 
@@ -127,6 +128,17 @@ fn may_wait_beside<T: Drop>(rows: &[KeyedLane<T>], may_wait: MayWait, at: usize)
         return MayWait::At(at);
     }
     MayWait::Anywhere
+}
+
+/// In which of these lanes something may wait, where nothing waits in any but the one at this place.
+fn may_wait_at<T: Drop>(rows: &[KeyedLane<T>], at: usize) -> MayWait
+    requires { are_quiet_beside at rows.now ≡ true }
+    ensures { is_told result rows.now ≡ true }
+{
+    match is_quiet_at(rows, at) {
+        true => MayWait::Nowhere,
+        false => MayWait::At(at),
+    }
 }
 
 /// Whether something may wait in the lane at this place alone.
@@ -330,6 +342,17 @@ pub trait TakingKeyed<T: Drop> {
         requires there { is_gone_at (slice_get (rows self.now) at) ≡ false }
         ensures ok { IfOk result (λ p. TakesFirstAt (O.meaning ops.now) (rows self.now) at p) }
         ensures goes_on { IfOk result (λ p. PickGoesOn p.lane) };
+
+    /// Picks the item that waits first in the one lane in which something may wait, as [`Laning::pick_item`] does. Where it isn't known
+    /// that nothing waits in any other lane, and where that gives no item, it answers nothing, and nothing has changed.
+    fn pick_item<O: Ops<Item = T>>(
+        &mut self,
+        alloc: Global,
+        ops: &O,
+        choices: &mut Record,
+    ) -> Option<T>
+        ensures some { IfSome result (λ x. IsItemPickedAt (O.meaning ops.now) (rows self.old) choices.old x (rows self.new) choices.new) }
+        ensures none { IfNone result ((self.new ≡ self.old) × (choices.new ≡ choices.old)) };
 }
 
 impl<T: Drop> TakingKeyed<T> for LaneTable<T> {
@@ -404,5 +427,31 @@ impl<T: Drop> TakingKeyed<T> for LaneTable<T> {
     {
         let row = &self.rows[at];
         row.lane.prepare(alloc, ops, row.key)
+    }
+
+    fn pick_item<O: Ops<Item = T>>(
+        &mut self,
+        alloc: Global,
+        ops: &O,
+        choices: &mut Record,
+    ) -> Option<T>
+        ensures some { IfSome result (λ x. IsItemPickedAt (O.meaning ops.now) self.old choices.old x self.new choices.new) }
+        ensures none { IfNone result ((self.new ≡ self.old) × (choices.new ≡ choices.old)) }
+    {
+        let at = match self.may_wait {
+            MayWait::At(at) => at,
+            MayWait::Nowhere | MayWait::Anywhere => return None,
+        };
+        if at >= self.rows.len() {
+            return None;
+        }
+        let row = &mut self.rows[at];
+        match row.lane.pick_item(alloc, ops, row.key, at as u64, choices) {
+            Some(item) => {
+                self.may_wait = may_wait_at(self.rows.as_slice(), at);
+                Some(item)
+            }
+            None => None,
+        }
     }
 }

@@ -385,13 +385,15 @@ impl<T: Drop> Machine for AnyNode<T> {
     #[inline(always)]
     fn steps_out(&self) -> bool {
         match self {
-            AnyNode::Several(_) | AnyNode::FlatMap(_) | AnyNode::FlatMapDelay(_) => true,
+            AnyNode::Several(_)
+            | AnyNode::FlatMap(_)
+            | AnyNode::FlatMapDelay(_)
+            | AnyNode::GroupBy(_) => true,
             AnyNode::Source(_)
             | AnyNode::Plain(_)
             | AnyNode::PublishOn(_)
             | AnyNode::PublishOnEager(_)
-            | AnyNode::Window(_)
-            | AnyNode::GroupBy(_) => false,
+            | AnyNode::Window(_) => false,
         }
     }
 
