@@ -276,6 +276,8 @@ impl<T: Drop> Machine for FlatMapDelayNode<T> {
         self.flat.pop_item(alloc, ops)
     }
 
+    // Not inlined, so that what drives a node of any kind has no room for a lane set up.
+    #[inline(never)]
     fn pass<O: Ops<Item = T>>(&mut self, alloc: Global, ops: &O, input: u64, item: T) -> Passed<T> {
         if input != 0 || self.flat.closed || self.has_ended() {
             return Passed::Declined(item);
@@ -391,9 +393,9 @@ impl<T: Drop> Machine for FlatMapDelayNode<T> {
         if self.flat.choices.push(number).is_err() {
             return None;
         }
-        match self.flat.lanes.take_first() {
-            Some(Signal::Next(item)) => Some(item),
-            Some(Signal::Complete) | Some(Signal::Error(_)) | None => unreachable!(),
+        match self.flat.lanes.take_first_item() {
+            Some(item) => Some(item),
+            None => unreachable!(),
         }
     }
 

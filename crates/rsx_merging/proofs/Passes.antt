@@ -1,7 +1,6 @@
 -- An item that goes through an empty queue in one go.
 use Rattle.std.proofs.lemmas.Bool.{and_parts, eqb-true}
-use Rattle.std.proofs.Common.{◌≡◌, ℕ, ◌+◌, ◌==◌, Bool, true, false, ◌&&◌, List, [], ◌∷◌, refl, sym, ap, ◌∙◌, subst, arith}
-use Rattle.std.proofs.lemmas.Bool.Decides.{nat_tests}
+use Rattle.std.proofs.Common.{◌≡◌, ℕ, ◌+◌, ◌==◌, true, false, List, [], ◌∷◌, refl, sym, ap, ◌∙◌, subst, arith}
 use Rattle.rsx_sources.specs.Prelude.{Nothing, Next, Meaning, taken_after, IsPassed}
 use Rattle.rsx_sources.specs.declared.machine.Front.TheVariants.{Item}
 use Rattle.rsx_sources.specs.declared.machine.Passed.TheVariants.{Item as ItemOut}

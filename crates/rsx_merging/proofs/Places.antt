@@ -1,11 +1,12 @@
 -- Lanes by their places.
-use Rattle.std.proofs.Common.{◌≡◌, ◌⊎◌, inl, inr, ℕ, zero, suc, ◌<◌, nat_eq, Bool, true, false, List, [], ◌∷◌, length, slice_get, slice_index_or, take, Option, Some, None, option_map, refl, ap, sym, ◌∙◌, arith, subst}
+use Rattle.std.proofs.Common.{◌≡◌, ◌⊎◌, inl, inr, ℕ, zero, suc, ◌<◌, nat_eq, Bool, true, false, List, [], ◌∷◌, length, slice_get, slice_index_or, slice_set, take, Option, Some, None, IfSome, IfNone, option_map, refl, ap, sym, ◌∙◌, arith, subst}
 use Rattle.std.proofs.lemmas.Bool.Decides.{nat_tests}
-use Rattle.rsx_sources.specs.Prelude.{Signal, front_of}
+use Rattle.rsx_sources.specs.Prelude.{Signal, Next, front_of}
 use Rattle.rsx_sources.specs.declared.machine.Front.{Front}
+use Rattle.rsx_sources.specs.declared.machine.Front.TheVariants.{Item}
 use Rattle.rsx_values.specs.Prelude.{InputLeft, next_of, TakesAt, TakesNext}
 use Rattle.rsx_values.proofs.Places.{given_at, next_at, NotAmong}
-use Rattle.rsx_merging.specs.Lanes.{next_front, may_take, IsPlaceOf}
+use Rattle.rsx_merging.specs.Lanes.{next_front, may_take, IsPlaceOf, TakesItem}
 
 -- which signal is given at a place
 given_front : {T : Type 0} (is : List (InputLeft T)) (k n : ℕ) (ss : List (Signal T)) → option_map front_of (slice_get ss 0) ≡ option_map (λ p. front_of p.0) (given_at is k n ss)
@@ -25,6 +26,16 @@ pub some_lane : {A : Type 0} (is : List A) (k : ℕ) → k < length is → (i : 
 some_lane [] k lt = absurd (omega arith)
 some_lane (i ∷ is) zero lt = (i, refl)
 some_lane (i ∷ is) (suc k) lt = some_lane is k (omega arith)
+
+-- the signal at a place was taken, whichever lane stands there
+pub placed_taken : {T : Type 0} (c : ℕ) (is : List (InputLeft T)) (k : ℕ) (o : Option (Signal T)) (new : List (InputLeft T)) → IsPlaceOf c is (Some k) → ((i : InputLeft T) → slice_index_or is k i ≡ i → TakesAt is k i o new) → TakesNext c is o new
+placed_taken c is k o new place h = let lane = some_lane is k place.0 in taken_there c is k lane.0 o new place lane.1 (h lane.0 lane.1)
+
+-- the item at a place was taken, of the lane i there, which is j then
+pub item_taken : {T : Type 0} (c : ℕ) (is : List (InputLeft T)) (k : ℕ) (i j : InputLeft T) (o : Option T) (new : List (InputLeft T)) → IsPlaceOf c is (Some k) → next_front c is ≡ Some Item → slice_index_or is k i ≡ i →
+    IfSome o (λ x. i.1 ≡ Next x ∷ j.1) → IfNone o (option_map front_of (slice_get i.1 0) ≡ Some Item → ⊥) → j.0 ≡ i.0 → new ≡ slice_set is k j → TakesItem c is o new
+item_taken c is k i j None new place front at some none number left = none (front_there c is k i (option_map front_of (slice_get i.1 0)) place at refl ∙ front)
+item_taken c is k i j (Some x) new place front at some none number left = taken_there c is k i (Some (Next x)) new place at (j.1, some, left ∙ ap (λ n. slice_set is k (n, j.1)) number)
 
 -- a choice finds nothing, or it is the number of a lane
 among : {T : Type 0} (c : ℕ) (is : List (InputLeft T)) → (next_of c is ≡ None) ⊎ ((k : ℕ) × (i : InputLeft T) × (k < length is) × (slice_index_or is k i ≡ i) × (c ≡ i.0))

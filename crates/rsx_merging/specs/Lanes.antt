@@ -7,6 +7,7 @@ use Rattle.rsx_sources.specs.Machine.{front_of}
 use Rattle.rsx_sources.specs.declared.machine.Front.{Front}
 use Rattle.rsx_sources.specs.declared.machine.Front.TheVariants.{Item, Completion, Failure}
 use Rattle.rsx_values.specs.Pick.{InputLeft, next_of}
+use Rattle.rsx_values.specs.Steps.{TakesNext}
 use Rattle.rsx_values.proofs.Places.{given_at}
 use Rattle.rsx_plain.specs.Moves.{has_ending}
 
@@ -30,6 +31,11 @@ next_front c is = option_map (λ p. front_of p.0) (next_of c is)
 abbrev pub IsPlaceOf : {T : Type 0} → ℕ → List (InputLeft T) → Option ℕ → Type 0
 IsPlaceOf c is None = next_of c is ≡ None
 IsPlaceOf {T} c is (Some k) = (k < length is) × ((i : InputLeft T) → slice_index_or is k i ≡ i → next_of c is ≡ given_at is k i.0 i.1)
+
+-- the choice took this item, and left these inputs
+abbrev pub TakesItem : {T : Type 0} → ℕ → List (InputLeft T) → Option T → List (InputLeft T) → Type 0
+TakesItem c old None new = ⊥
+TakesItem c old (Some x) new = TakesNext c old (Some (Next x)) new
 
 -- whether it may be taken: an item only where one more may be sent
 abbrev pub may_take : Option Front → Bool → Bool

@@ -45,6 +45,50 @@ fn push_main<T: Drop>(
     Ok(())
 }
 
+/// What the operators of an expansion give.
+trait ThroughStages<T: Drop> {
+    ghost stages: { Self → List (StageSpec T) };
+
+    /// What a new chain of the operators gives for this list and the completion behind it.
+    ///
+    /// # Errors
+    /// [`NoMemory`] where a growth was refused, in a function of the caller too.
+    fn through_stages<O: Ops<Item = T>>(
+        &self,
+        alloc: Global,
+        ops: &O,
+        list: Vec<T>,
+    ) -> Result<StreamValue<T>, NoMemory>
+        ensures { IfOk result (λ v. v ≡ flat_lane (O.meaning ops.now) (stages self.now) list.items) };
+}
+
+impl<T: Drop> ThroughStages<T> for Expansion<T> {
+    ghost stages = { λ e. e.stages.items };
+
+    // Not inlined, so that a lane without operators has no room for a chain set up.
+    #[inline(never)]
+    fn through_stages<O: Ops<Item = T>>(
+        &self,
+        alloc: Global,
+        ops: &O,
+        list: Vec<T>,
+    ) -> Result<StreamValue<T>, NoMemory>
+        ensures { IfOk result (λ v. v ≡ flat_lane (O.meaning ops.now) self.now.stages.items list.items) }
+    {
+        let NewChain { chain, first } = ChainState::new(alloc, ops, &self.stages)?;
+        match first.ending() {
+            Ending::Open => {
+                let rest = chain.rest(alloc, ops, StreamValue::new(list, Ending::Done))?;
+                let ending = rest.ending();
+                let mut items = first.into_items();
+                append(&mut items, rest.into_items())?;
+                Ok(StreamValue::new(items, ending))
+            }
+            _ => Ok(first),
+        }
+    }
+}
+
 /// What an expansion makes of items.
 pub trait Expanding<T: Drop> {
     ghost function: { Self → ℕ };
@@ -110,19 +154,10 @@ impl<T: Drop> Expanding<T> for Expansion<T> {
         if self.stages.is_empty() {
             return Ok(StreamValue::new(list, Ending::Done));
         }
-        let NewChain { chain, first } = ChainState::new(alloc, ops, &self.stages)?;
-        match first.ending() {
-            Ending::Open => {
-                let rest = chain.rest(alloc, ops, StreamValue::new(list, Ending::Done))?;
-                let ending = rest.ending();
-                let mut items = first.into_items();
-                append(&mut items, rest.into_items())?;
-                Ok(StreamValue::new(items, ending))
-            }
-            _ => Ok(first),
-        }
+        self.through_stages(alloc, ops, list)
     }
 
+    #[inline(always)]
     fn lane_of<O: Ops<Item = T>>(
         &self,
         alloc: Global,

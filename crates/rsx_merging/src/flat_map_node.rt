@@ -97,6 +97,8 @@ impl<T: Drop> FlatMapNode<T> {
     ///
     /// # Errors
     /// [`NoMemory`] where the growth was refused, or no number is left. Nothing has changed.
+    // Inlined where an item comes in, as are `lane_of` and `push`, so that a lane is written once, into its place.
+    #[inline(always)]
     pub fn add_lane(&mut self, value: StreamValue<T>) -> Result<(), NoMemory>
         ensures ok { OnOk result (self.new ≡ with_lane self.old value) }
         ensures number { OnOk result (self.old.next < MAIN) }
@@ -299,6 +301,8 @@ impl<T: Drop> Machine for FlatMapNode<T> {
         self.output.pop_item()
     }
 
+    // Not inlined, so that what drives a node of any kind has no room for a lane set up.
+    #[inline(never)]
     fn pass<O: Ops<Item = T>>(&mut self, alloc: Global, ops: &O, input: u64, item: T) -> Passed<T> {
         if input != 0 || self.closed || self.has_ended() {
             return Passed::Declined(item);
@@ -363,13 +367,17 @@ impl<T: Drop> Machine for FlatMapNode<T> {
         // A pick that is one more of the last run takes no memory.
         ensures joined { joins_last self.old.choices input ≡ true → IfErr result (λ e. e ≡ NotMade.NotEnabled) }
     {
-        if !self.can_pick(input, asked, sent) {
+        if !self.output.is_empty() {
             return Err(NotMade::NotEnabled);
         }
+        let at = match self.lanes.ready_place(input, sent < asked) {
+            Some(at) => at,
+            None => return Err(NotMade::NotEnabled),
+        };
         if let Err(_) = self.choices.push(input) {
             return Err(NotMade::NoMemory);
         }
-        match self.lanes.take(input) {
+        match self.lanes.take_at(at) {
             Some(Signal::Next(item)) => {
                 self.output.put(Signal::Next(item));
                 Ok(())
@@ -424,9 +432,9 @@ impl<T: Drop> Machine for FlatMapNode<T> {
         if self.choices.push(number).is_err() {
             return None;
         }
-        match self.lanes.take_first() {
-            Some(Signal::Next(item)) => Some(item),
-            Some(Signal::Complete) | Some(Signal::Error(_)) | None => unreachable!(),
+        match self.lanes.take_first_item() {
+            Some(item) => Some(item),
+            None => unreachable!(),
         }
     }
 

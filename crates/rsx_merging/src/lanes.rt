@@ -46,9 +46,11 @@ impl<T> Model for Lane<T> {
 }
 
 impl<T: Drop> Lane<T> {
-    ghost use Rattle.std.specs.Prelude.{◌≡◌, ◌++◌, slice_get, option_map};
+    ghost use Rattle.std.specs.Prelude.{◌≡◌, ◌∷◌, ◌++◌, slice_get, option_map, Some, IfSome, IfNone};
     ghost use Rattle.std.specs.Option.{option_to_list};
     ghost use Rattle.rsx_types.specs.Stream.{signals};
+    ghost use Rattle.rsx_types.specs.declared.signal.Signal.TheVariants.{Next};
+    ghost use Rattle.rsx_sources.specs.declared.machine.Front.TheVariants.{Item};
     ghost use Rattle.rsx_sources.specs.Machine.{front_of};
     ghost use Rattle.rsx_merging.specs.Lanes.{items_in};
 
@@ -108,6 +110,16 @@ impl<T: Drop> Lane<T> {
         self.reversed.len() as u64
     }
 
+    /// Takes the next signal, if that is an item.
+    #[inline]
+    fn take_item(&mut self) -> Option<T>
+        ensures item { IfSome result (λ x. self.old.1 ≡ Next x ∷ self.new.1) }
+        ensures none { IfNone result (option_map front_of (slice_get self.old.1 0) ≡ Some Item → ⊥) }
+        ensures number { self.new.0 ≡ self.old.0 }
+    {
+        self.reversed.pop()
+    }
+
     /// Takes the next signal, if one is left.
     pub(crate) fn take(&mut self) -> Option<Signal<T>>
         ensures signal { result ≡ slice_get self.old.1 0 }
@@ -157,7 +169,7 @@ impl<T: Drop> Lanes<T> {
     ghost use Rattle.rsx_sources.specs.declared.machine.Front.TheVariants.{Item};
     ghost use Rattle.rsx_values.specs.Pick.{InputLeft};
     ghost use Rattle.rsx_values.specs.Steps.{TakesAt, TakesNext};
-    ghost use Rattle.rsx_merging.specs.Lanes.{next_front, may_take, IsPlaceOf, waiting_after};
+    ghost use Rattle.rsx_merging.specs.Lanes.{next_front, may_take, IsPlaceOf, TakesItem, waiting_after};
 
     /// No lanes. It takes no memory.
     pub fn new(alloc: Global) -> Lanes<T>
@@ -207,6 +219,7 @@ impl<T: Drop> Lanes<T> {
     ///
     /// # Errors
     /// [`NoMemory`] where the growth was refused. Nothing has changed.
+    #[inline(always)]
     pub fn push(&mut self, lane: Lane<T>) -> Result<(), NoMemory>
         ensures ok { OnOk result (self.new ≡ self.old ++ lane ∷ []) }
         ensures err { OnErr result (self.new ≡ self.old) }
@@ -240,7 +253,7 @@ impl<T: Drop> Lanes<T> {
     }
 
     /// Takes the next signal of the lane at this place. A lane whose ending was taken is gone.
-    fn take_at(&mut self, at: usize) -> Option<Signal<T>>
+    pub(crate) fn take_at(&mut self, at: usize) -> Option<Signal<T>>
         requires { at < length self.old }
         ensures { (i : InputLeft T) → slice_index_or self.old at i ≡ i → TakesAt self.old at i result self.new }
     {
@@ -261,14 +274,15 @@ impl<T: Drop> Lanes<T> {
         }
     }
 
-    /// Takes the next signal of the first lane, if there is one. A lane whose ending was taken is gone.
-    pub fn take_first(&mut self) -> Option<Signal<T>>
-        ensures { (i : ℕ) → IsPlaceOf i self.old (Some 0) → TakesNext i self.old result self.new }
+    /// Takes the next item of the first lane, if an item is next there.
+    #[inline]
+    pub fn take_first_item(&mut self) -> Option<T>
+        ensures { (i : ℕ) → IsPlaceOf i self.old (Some 0) → next_front i self.old ≡ Some Item → TakesItem i self.old result self.new }
     {
         if self.list.is_empty() {
             return None;
         }
-        self.take_at(0)
+        self.list[0].take_item()
     }
 
     /// The number of the first lane, where an item is next there.
@@ -281,6 +295,24 @@ impl<T: Drop> Lanes<T> {
                 Some(Front::Item) => Some(lane.number()),
                 _ => None,
             },
+            None => None,
+        }
+    }
+
+    /// The place of the lane with this number, if its next signal may be taken; an item may be where `items` says so.
+    pub(crate) fn ready_place(&self, number: u64, items: bool) -> Option<usize>
+        ensures place { IfSome result (λ k. IsPlaceOf number self.now (Some k)) }
+        ensures ready { IfSome result (λ k. may_take (next_front number self.now) items ≡ true) }
+        ensures none { IfNone result (may_take (next_front number self.now) items ≡ false) }
+    {
+        match self.place_of(number) {
+            Some(at) => {
+                if may_take(self.list[at].front(), items) {
+                    Some(at)
+                } else {
+                    None
+                }
+            }
             None => None,
         }
     }

@@ -1,4 +1,4 @@
-use Rattle.std.proofs.Common.{◌≡◌, true, refl, sym, ap, ◌∙◌, rules}
+use Rattle.std.proofs.Common.{◌≡◌, true, refl, sym, ◌∙◌, rules}
 use Rattle.rsx_types.specs.declared.signal.Signal.TheVariants.{Next}
 use Rattle.rsx_sources.specs.declared.machine.Front.TheVariants.{Item}
 use Rattle.rsx_queued.specs.declared.output.Output.TheVariants.{Waiting}

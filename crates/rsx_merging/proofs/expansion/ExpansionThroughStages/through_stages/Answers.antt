@@ -2,7 +2,7 @@ use Rattle.std.proofs.Common.{sym, ap, ◌∙◌}
 use Rattle.rsx_values.specs.Prelude.{listed, chained, flat_lane}
 use Rattle.rsx_plain.specs.Chain.{chain_from}
 use Rattle.rsx_merging.proofs.Coming.{chain_closed}
-use Rattle.rsx_merging.proofs.expansion.ExpansionExpanding.through_chain.Goals as goal
+use Rattle.rsx_merging.proofs.expansion.ExpansionThroughStages.through_stages.Goals as goal
 
 pub returns-in_default : goal.returns-in_default
 returns-in_default g c =
