@@ -1,15 +1,16 @@
 -- What the calls of a zip do, from the state in which the code found it.
 use Rattle.std.proofs.lemmas.List.{length-set}
+use Rattle.std.proofs.lemmas.Bool.Decides.{nat_tests}
 use Rattle.std.proofs.lemmas.Bool.{and_parts}
-use Rattle.std.proofs.Common.{◌≡◌, ℕ, ◌≤◌, ◌^◌, ◌&&◌, true, nat_lt, zero, suc, List, [], ◌∷◌, ◌++◌, slice_index_or, slice_set, Option, Some, None, option_map, inr, refl, ap, sym, ◌∙◌, subst}
+use Rattle.std.proofs.Common.{◌≡◌, ℕ, ◌<◌, ◌≤◌, ◌^◌, ◌&&◌, true, nat_lt, zero, suc, List, [], ◌∷◌, slice_index_or, slice_set, Option, Some, None, IfSome, IfNone, option_map, inr, refl, ap, sym, ◌∙◌, subst, arith}
 use Rattle.rsx_sources.specs.Prelude.{Note, Nothing, Picks, Ended, Done, Signal, Next, Meaning, Stream, ended_by, signal_then, CountsIn, CountsStep, TakesIn, Keeps, front_of, IsResidualOf, IsSteppedOut}
 use Rattle.rsx_queued.specs.declared.input.QueuedInput.{QueuedInput}
 use Rattle.rsx_queued.specs.declared.output.Output.{Output}
 use Rattle.rsx_queued.specs.declared.output.Output.TheVariants.{Empty, Waiting}
 use Rattle.rsx_queued.specs.Prelude.{with_signal, is_empty, has_ending, is_over, output_then}
 use Rattle.rsx_values.specs.Zip.{heads, zip}
-use Rattle.rsx_combining.specs.Inputs.{lefts, all_have_items, queued, all_shortened}
-use Rattle.rsx_combining.specs.Zip.{ZipState, recorded_ending, behind_ending, zip_of, zip_comes_out, zip_waiting, zip_takes, zip_with_signal, zip_picks, zip_rows, IsZipRow, zip_popped, zip_recording, zip_recorded, zip_ended, zip_done, IsZipCounted, is_some_input}
+use Rattle.rsx_combining.specs.Inputs.{lefts, is_some_input, all_have_items, queued, all_shortened, IsNextRow}
+use Rattle.rsx_combining.specs.Zip.{ZipState, recorded_ending, behind_ending, zip_of, zip_comes_out, zip_waiting, zip_takes, zip_with_signal, zip_picks, zip_rows, IsZipRow, zip_popped, zip_recording, zip_recorded, zip_ended, zip_done, IsZipCounted}
 use Rattle.rsx_queued.proofs.Changed.{IsPut, is_put, put_done, put_ends}
 use Rattle.rsx_queued.proofs.Outputs.{empty_is}
 use Rattle.rsx_combining.proofs.Filled.{put_lefts, put_counted, set_with}
@@ -121,10 +122,6 @@ row_steps {T} m start old asked sent qs out y p =
     let R : Output T → Type 0 = λ o. CountsStep IsZipCounted zip_ended zip_done start (with_row start (all_shortened start.inputs) o) in
     subst P p.same (subst Q (sym p.shorter) (subst R (sym p.put) (row_counts start y can.some_input can.items can.empty)))
 
--- a row of what was gathered so far, which is nothing, and of the first item of each input
-pub row_is : {T : Type 0} (m : Meaning T) (so_far : List T) (was qs : List (QueuedInput T)) (y : T) → y ≡ m.row_of (so_far ++ heads (queued was)) → so_far ≡ [] → was ≡ qs → y ≡ m.row_of (heads (queued qs))
-row_is m so_far was qs y is none same = is ∙ ap (λ l. m.row_of (l ++ heads (queued was))) none ∙ ap (λ l. m.row_of (heads (queued l))) same
-
 -- an item that waits comes out before what else comes
 row_leaves : {T : Type 0} (m : Meaning T) (out : Output T) (y : T) (qs : List (QueuedInput T)) (vs : List (Stream T)) (further : Note) → out ≡ Empty →
     zip_of m (Waiting (Next y)) qs vs further ≡ option_map (signal_then (Next y)) (zip_of m out qs vs further)
@@ -153,6 +150,25 @@ row_out {T} m start old asked sent qs y p =
         counts = (ap has_ending empty, (λ taken n h. record { unchosen = h.unchosen; goes_on = ap is_over empty; some_input = h.some_input; few = h.few; counts = h.counts }), λ j d. d);
       },
     )
+
+-- a row went out at once, where one could be made of what the inputs were; else the node is as it was
+pub row_or_none : {T : Type 0} (m : Meaning T) (start old : ZipState T) (asked sent : ℕ) (o : Option T) (was new qs : List (QueuedInput T)) → start ≡ old → is_empty start.output ≡ true → sent < asked → was ≡ start.inputs → qs ≡ new →
+    IfSome o (λ y. IsNextRow m was y new) → IfNone o (new ≡ was) →
+    IsSteppedOut (zip_comes_out m) (zip_waiting m) zip_picks zip_rows IsZipRow zip_popped zip_recording zip_recorded IsZipCounted zip_ended zip_done old asked sent o (with_row start qs start.output)
+row_or_none m start old asked sent None was new qs same free more is after row none =
+    ap (λ l. with_row start l start.output) (after ∙ none ∙ is) ∙ same
+row_or_none {T} m start old asked sent (Some y) was new qs same free more is after row none =
+    let P : List (QueuedInput T) → Type 0 = λ l. IsNextRow m l y new in
+    let there : IsNextRow m start.inputs y new = subst P is row in
+    let less : nat_lt sent asked ≡ true = grind (arith, nat_tests, more) in
+    let enabled : zip_rows start asked sent ≡ true = rw (free, less, there.some_input, there.items) refl in
+    row_out m start old asked sent qs y (record {
+      same = same;
+      enabled = sym (ap (λ n. zip_rows n asked sent) same) ∙ enabled;
+      row = there.gives;
+      shorter = after ∙ there.taken;
+      put = refl;
+    })
 
 -- ---- the rest
 

@@ -14,8 +14,8 @@ use Rattle.rsx_queued.specs.declared.output.Output.TheVariants.{Empty, Waiting}
 use Rattle.rsx_queued.proofs.Outputs.{not_ended}
 use Rattle.rsx_queued.proofs.Counts.{counted_without}
 use Rattle.rsx_values.specs.Zip.{items_of, shortest, heads, tails, rows, has_ended, ends_after, first_ending, ending_after, zip_ending, zip_rows, zip}
-use Rattle.rsx_combining.specs.Inputs.{left, lefts, is_item, ending_only, ending_at, all_have_items, queued, shortened, all_shortened, AllCounted}
-use Rattle.rsx_combining.specs.Zip.{ZipState, zip_of, is_some_input, zip_ended, zip_done, IsZipCounted}
+use Rattle.rsx_combining.specs.Inputs.{left, lefts, is_item, ending_only, ending_at, is_some_input, all_have_items, queued, shortened, all_shortened, AllCounted}
+use Rattle.rsx_combining.specs.Zip.{ZipState, zip_of, zip_ended, zip_done, IsZipCounted}
 
 -- ---- a row in front of stream values
 

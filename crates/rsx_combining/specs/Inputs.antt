@@ -1,11 +1,12 @@
 -- The inputs of a zip: what is still to come of each, and what can be done with it.
 use Rattle.std.specs.Prelude.{◌≡◌, ℕ, zero, suc, ◌^◌, nat_lt, Bool, true, false, ◌&&◌, if◌then◌else◌, List, [], ◌∷◌, drop, slice_get, Option, Some, None}
-use Rattle.rsx_sources.specs.Prelude.{Open, Signal, Next, Complete, Error, Stream, ended_by}
+use Rattle.rsx_sources.specs.Prelude.{Meaning, Open, Signal, Next, Complete, Error, Stream, ended_by}
 use Rattle.rsx_sources.specs.declared.machine.Passed.{Passed}
 use Rattle.rsx_sources.specs.declared.machine.Passed.TheVariants.{Item, Kept, Declined}
 use Rattle.rsx_demand.specs.Demand.{saturating_total}
 use Rattle.rsx_prefetch.specs.Queue.{queue}
 use Rattle.rsx_queued.specs.declared.input.QueuedInput.{QueuedInput}
+use Rattle.rsx_values.specs.Zip.{heads}
 use Rattle.rsx_queued.specs.Prelude.{still, next_signal, with_signal, IsCounted, is_gone, next_signal_at, head_of, tail_of}
 
 -- of an input whose ending was taken nothing comes
@@ -58,6 +59,17 @@ shortened q = record q { queue = queue (drop 1 q.queue.items) q.queue.capacity (
 abbrev pub all_shortened : {T : Type 0} → List (QueuedInput T) → List (QueuedInput T)
 all_shortened [] = []
 all_shortened (q ∷ qs) = shortened q ∷ all_shortened qs
+
+abbrev pub is_some_input : {T : Type 0} → List (QueuedInput T) → Bool
+is_some_input [] = false
+is_some_input (q ∷ qs) = true
+
+-- the row of the next item of each input, which was taken out of it
+pub record IsNextRow {T : Type 0} (m : Meaning T) (old : List (QueuedInput T)) (row : T) (new : List (QueuedInput T)) : Type 0 where
+  pub some_input : is_some_input old ≡ true
+  pub items : all_have_items old ≡ true
+  pub gives : row ≡ m.row_of (heads (queued old))
+  pub taken : new ≡ all_shortened old
 
 -- ---- what comes in
 

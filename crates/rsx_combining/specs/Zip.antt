@@ -1,5 +1,5 @@
 -- The zip as a node: a queue for each input, the out slot, and the input whose ending was taken.
-use Rattle.std.specs.Prelude.{◌≡◌, ℕ, ◌≤◌, ◌^◌, ◌&&◌, not, Bool, true, false, if◌then◌else◌, nat_eq, nat_lt, List, [], ◌∷◌, length, slice_get, Option, Some, None, option_map}
+use Rattle.std.specs.Prelude.{◌≡◌, ℕ, ◌≤◌, ◌^◌, ◌&&◌, not, Bool, true, false, if◌then◌else◌, nat_eq, nat_lt, List, ◌∷◌, length, slice_get, Option, Some, None, option_map}
 use Rattle.std.specs.Option.{is_some}
 use Rattle.rsx_sources.specs.Prelude.{Note, Nothing, Picks, Ended, Done, Signal, Next, Meaning, Allocates, Stream, ended_by, Incoming, front_of}
 use Rattle.rsx_sources.specs.declared.machine.Front.{Front}
@@ -10,7 +10,7 @@ use Rattle.rsx_queued.specs.declared.output.Output.{Output}
 use Rattle.rsx_queued.specs.declared.output.Output.TheVariants.{Waiting}
 use Rattle.rsx_queued.specs.Prelude.{out_signal, is_empty, has_ending, is_over, output_then, IsOut, takes_at, credits_at, waiting_at, done_at, first_values}
 use Rattle.rsx_values.specs.Zip.{zip}
-use Rattle.rsx_combining.specs.Inputs.{lefts, ending_at, all_have_items, all_shortened, with_signal_at, IsQueued, AllCounted}
+use Rattle.rsx_combining.specs.Inputs.{lefts, ending_at, is_some_input, all_have_items, all_shortened, with_signal_at, IsQueued, AllCounted}
 
 -- the inputs, what the node has put out, and the number of the input whose ending it took
 pub record ZipState (T : Type 0) : Type 0 where
@@ -61,10 +61,6 @@ may_end n = is_empty n.output && is_unchosen n.chosen
 -- an input can be picked where its ending is next
 abbrev pub zip_picks : {T : Type 0} → ZipState T → ℕ → ℕ → ℕ → Bool
 zip_picks n i asked sent = may_end n && is_some (ending_at n.inputs i)
-
-abbrev pub is_some_input : {T : Type 0} → List (QueuedInput T) → Bool
-is_some_input [] = false
-is_some_input (q ∷ qs) = true
 
 -- a row can be made where an item is next at each input, one more may be sent, and nothing waits
 abbrev pub zip_rows : {T : Type 0} → ZipState T → ℕ → ℕ → Bool

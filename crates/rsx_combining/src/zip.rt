@@ -2,9 +2,9 @@
 
 ghost use Rattle.std.specs.Prelude.{◌≡◌};
 ghost use Rattle.rsx_queued.specs.Input.{next_signal};
-ghost use Rattle.rsx_combining.specs.Inputs.{all_have_items, ending_only};
+ghost use Rattle.rsx_combining.specs.Inputs.{ending_only};
 
-use crate::row::Gathered;
+use crate::row::{Gathered, all_have_items};
 use crate::values::ToCome;
 use rsx_prefetch::LARGEST;
 use rsx_queued::{InFront, Output, QueuedInput, credits_at, front_of, takes_at, waiting_at};
@@ -38,19 +38,6 @@ impl<T> Model for ZipNode<T> {
     ghost invariant = { λ n. (n.row.items ≡ []) × (length n.inputs.items ≤ vec_capacity n.row) };
 }
 
-/// Whether an item is next at each input.
-fn all_have_items<T: Drop>(inputs: &[QueuedInput<T>]) -> bool
-    ensures { result ≡ all_have_items inputs.now }
-{
-    match inputs.split_first() {
-        None => true,
-        Some((first, others)) => match first.front() {
-            Some(Front::Item) => all_have_items(others),
-            _ => false,
-        },
-    }
-}
-
 /// The next signal of an input, where that is an ending.
 #[tactic(auto, using(crate::proofs::Heads::ending_shown))]
 fn next_ending<T: Drop>(input: &QueuedInput<T>) -> Option<Signal<T>>
@@ -70,7 +57,8 @@ impl<T: Drop> ZipNode<T> {
     ghost use Rattle.rsx_queued.specs.Input.{fresh_input};
     ghost use Rattle.std.proofs.Math.ListN.{replicate};
     ghost use Rattle.rsx_combining.specs.Inputs.{ending_at};
-    ghost use Rattle.rsx_combining.specs.Zip.{GivesZip, IsZipCounted, is_chosen, may_end, zip_queued};
+    ghost use Rattle.rsx_sources.specs.declared.machine.Front.TheVariants.{Item};
+    ghost use Rattle.rsx_combining.specs.Zip.{GivesZip, IsZipCounted, is_chosen, may_end, zip_queued, zip_takes};
 
     /// The zip of so many inputs, each with a queue for so many items, 1 to [`LARGEST`].
     ///
@@ -125,6 +113,17 @@ impl<T: Drop> ZipNode<T> {
         ensures { result ≡ may_end self.now }
     {
         self.output.is_empty() && self.chosen.is_none()
+    }
+
+    /// Whether an item can be put in at this input.
+    fn has_room_at(&self, input: u64) -> bool
+        ensures { result ≡ zip_takes self.now input Item }
+    {
+        // By the comparison that `Prefetch::put` makes, too, so that the compiler makes one of the two.
+        match self.inputs.get(input as usize) {
+            Some(queued) => queued.tail.is_open() && queued.queue.len() < queued.queue.capacity(),
+            None => false,
+        }
     }
 
     /// The ending that is next at this input, if one is.
@@ -254,7 +253,7 @@ impl<T: Drop> Machine for ZipNode<T> {
         ensures made { IsZipPassed self.old input item result self.new }
         ensures alike { StaysAlike (λ n. None) (λ n. false) (λ a n. false) (λ a n. false) zip_step_allocates self.old self.new }
     {
-        if self.has_ended() || !self.can_take(input, Front::Item) {
+        if self.has_ended() || !self.has_room_at(input) {
             return Passed::Declined(item);
         }
         self.inputs[input as usize].put(Signal::Next(item));
@@ -368,16 +367,10 @@ impl<T: Drop> Machine for ZipNode<T> {
         asked: u64,
         sent: u64,
     ) -> Option<T> {
-        if !self.can_row(asked, sent) {
+        if !self.output.is_empty() || sent >= asked {
             return None;
         }
-        match self.row.row_with(alloc, ops, self.inputs.as_mut_slice()) {
-            Ok(row) => {
-                self.row.clear();
-                Some(row)
-            }
-            Err(NoMemory) => None,
-        }
+        self.row.next_row(alloc, ops, self.inputs.as_mut_slice())
     }
 
     fn want(&self, input: u64, asked: u64, sent: u64) -> u64 {

@@ -8,7 +8,7 @@ use Rattle.rsx_combining.proofs.zip.ZipNodeMachine.pass.Goals as goal
 pub returns-clause-passed : goal.returns-clause-passed
 returns-clause-passed g c =
     let start : ZipState g.row.T.Denot = record { inputs = c.self.inside.inputs.items; output = c.self.inside.output; chosen = c.self.inside.chosen } in
-    let takes : zip_takes c.args.self.now c.args.input Item ≡ true = sym c.can_take.ensures ∙ c.if-not-can_take.false in
+    let takes : zip_takes c.args.self.now c.args.input Item ≡ true = sym c.has_room_at.ensures ∙ c.if-not-has_room_at.false in
     let going : zip_ended c.args.self.now ≡ false = sym c.has_ended.ensures ∙ c.if-has_ended.false in
     record {
       enabled = takes;
@@ -21,7 +21,7 @@ returns-clause-passed g c =
 pub returns-clause-made : goal.returns-clause-made
 returns-clause-made g c =
     let start : ZipState g.row.T.Denot = record { inputs = c.self.inside.inputs.items; output = c.self.inside.output; chosen = c.self.inside.chosen } in
-    let takes : zip_takes c.args.self.now c.args.input Item ≡ true = sym c.can_take.ensures ∙ c.if-not-can_take.false in
+    let takes : zip_takes c.args.self.now c.args.input Item ≡ true = sym c.has_room_at.ensures ∙ c.if-not-has_room_at.false in
     let going : zip_ended c.args.self.now ≡ false = sym c.has_ended.ensures ∙ c.if-has_ended.false in (
       rw (going, takes) refl,
       signal_made start c.args.self.now c.args.input (Next c.args.item) c.index_mut.result.now c.put.new.self c.self.view_is c.index_mut.ensures.value c.put.ensures.state,
