@@ -7,6 +7,8 @@
 #include <stdatomic.h>
 #include <stdio.h>
 #include <stdlib.h>
+#include <sys/syscall.h>
+#include <unistd.h>
 
 static void *(*own_malloc)(size_t);
 static void *(*own_realloc)(void *, size_t);
@@ -36,6 +38,13 @@ __attribute__((destructor)) static void end(void) {
         fprintf(out, "%lu\n", all);
         fclose(out);
     }
+}
+
+/* A program that ends by _exit runs no destructor. */
+void _exit(int status) {
+    end();
+    for (;;)
+        syscall(SYS_exit_group, status);
 }
 
 static int is_refused(void) {

@@ -28,7 +28,7 @@ runs=0 wrong=0
 run() {
     local setting=$1 input=$2
     shift 2
-    env "$setting" GROWTHS="$room/growths" LD_PRELOAD="$room/refuse.so" timeout 60 "$@" <"$input" >"$room/out" 2>"$room/said"
+    timeout 60 env "$setting" GROWTHS="$room/growths" LD_PRELOAD="$room/refuse.so" "$@" <"$input" >"$room/out" 2>"$room/said"
     status=$?
     ((runs++))
 }
