@@ -200,9 +200,9 @@ impl<O: Ops> Graph<O> {
     /// G1 for a hub that isn't there and for the tree of a hub that has no feed, G2 for a subscription that isn't there, else G7
     /// exactly where the move isn't enabled, and G8 where a growth was refused; nothing changed. An Ask allocates nothing, and so
     /// does a Take but one that leads into a hub. A Send does only where its receiver is a `buffer`, a `distinct`, a `window`, a
-    /// `flatMap` or a `groupBy`, or where a function of the caller's that it calls may, or where it leads into a hub, and into the
-    /// queue of an edge that crosses where a pick or a row of its node may. A Pick and a Row of a `zip` do only where the function
-    /// that makes its rows may; those of other nodes always may, and so may an Accept.
+    /// `flatMap`, a `flatMapDelayError` or a `groupBy`, or where a function of the caller's that it calls may, or where it leads into
+    /// a hub, and into the queue of an edge that crosses where a pick or a row of its node may. A Pick and a Row of a `zip` do only
+    /// where the function that makes its rows may; those of other nodes always may, and so may an Accept.
     pub fn make(
         &mut self,
         alloc: Global,
@@ -243,7 +243,8 @@ impl<O: Ops> Graph<O> {
     /// G8 where a growth was refused; the moves made before stand, and their deliveries are in `out`. Where no hub has a feed it
     /// comes only where `out` has no room for one signal more, where a signal waits in the inbox of a hub, or where some node of a
     /// subscription's tree may allocate: a `buffer`, a `distinct`, a `window`, a `merge`, a `mergeDelayError`, a `combineLatest`, a
-    /// `flatMap` or a `groupBy`, or a node that calls a function of the caller's whose [`Ops`] says that it may (`allocates`).
+    /// `flatMap`, a `flatMapDelayError` or a `groupBy`, or a node that calls a function of the caller's whose [`Ops`] says that it may
+    /// (`allocates`).
     pub fn pump(
         &mut self,
         alloc: Global,

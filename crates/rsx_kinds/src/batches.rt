@@ -2,15 +2,16 @@
 //! operators, a concat, a merge, a combineLatest and a `publishOn` with an empty queue pass them on. A node that reads a hub takes in
 //! several of its items at once, and as the root of its tree it lets several out at once, with no copy.
 
-ghost use Rattle.std.specs.Prelude.{◌≡◌, [], true};
+ghost use Rattle.std.specs.Prelude.{◌≡◌, [], true, IfSome};
 ghost use Rattle.rsx_kinds.specs.Spaces.{any_spaces, source_spaces};
 ghost use Rattle.rsx_kinds.specs.Went.{any_went, several_went, source_went};
 ghost use Rattle.rsx_merging.specs.PublishOn.{publish_takes};
+ghost use Rattle.rsx_rooted.specs.Resting.{IsAtRest};
 
 use crate::{AnyNode, SeveralNode, SourceNode};
 use rsx_combining::PassingRows;
 use rsx_merging::PublishOnNode;
-use rsx_rooted::{After, Batches, FEWEST_IN_BATCH, Noted};
+use rsx_rooted::{After, Batches, FEWEST_IN_BATCH, Noted, want_of_resting};
 use rsx_sources::{Front, Machine};
 use rsx_types::Ops;
 use std::alloc::Global;
@@ -217,6 +218,21 @@ impl<T: Drop> Batches for AnyNode<T> {
     ghost spaces_of = { any_spaces };
 
     #[inline]
+    fn want_at_rest(&self, asked: u64, sent: u64) -> Option<u64> {
+        match self {
+            AnyNode::Plain(node) => want_of_resting(node, asked, sent),
+            AnyNode::Source(node) => want_of_resting(node, asked, sent),
+            AnyNode::Several(node) => want_of_another(node, asked, sent),
+            AnyNode::PublishOn(node) => want_of_another(node, asked, sent),
+            AnyNode::PublishOnEager(node) => want_of_another(node, asked, sent),
+            AnyNode::Window(node) => want_of_another(node, asked, sent),
+            AnyNode::FlatMap(node) => want_of_another(node, asked, sent),
+            AnyNode::FlatMapDelay(node) => want_of_another(node, asked, sent),
+            AnyNode::GroupBy(node) => want_of_another(node, asked, sent),
+        }
+    }
+
+    #[inline]
     fn most(&self) -> u64 {
         match self {
             AnyNode::Source(node) => node.most(),
@@ -349,6 +365,15 @@ impl<T: Drop> Batches for AnyNode<T> {
             | AnyNode::GroupBy(_) => {},
         }
     }
+}
+
+/// As [`want_of_resting`], of a node that is neither a plain operator nor a source. It isn't inlined, so that the look at those stays
+/// short.
+#[inline(never)]
+fn want_of_another<M: Machine>(node: &M, asked: u64, sent: u64) -> Option<u64>
+    ensures { IfSome result (λ want. IsAtRest M.Machine node.now asked sent want) }
+{
+    want_of_resting(node, asked, sent)
 }
 
 /// Whether an item of this input goes through without a stay in the queue.

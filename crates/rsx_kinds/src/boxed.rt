@@ -299,6 +299,11 @@ impl<N: Batches> Batches for Boxed<N> {
     ghost spaces_of = { N.spaces_of };
 
     #[inline]
+    fn want_at_rest(&self, asked: u64, sent: u64) -> Option<u64> {
+        self.node.want_at_rest(asked, sent)
+    }
+
+    #[inline]
     fn most(&self) -> u64 {
         self.node.most()
     }

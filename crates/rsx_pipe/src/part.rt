@@ -142,8 +142,8 @@ impl<N: Nodes> Part<N> {
     /// # Errors
     /// [`NotMade::NotEnabled`] exactly where the move isn't enabled, and [`NotMade::NoMemory`] where a growth was refused. Then
     /// nothing changed. An Ask doesn't allocate. A Send may where the node that takes the signal in is a `buffer`, `distinct`,
-    /// `window`, `groupBy` or `flatMap`; a pick or a row where its node is a `merge`, `mergeDelayError`, `combineLatest`, `groupBy`
-    /// or `flatMap`; and each where a node calls a function of the caller's that may.
+    /// `window`, `groupBy`, `flatMap` or `flatMapDelayError`; a pick or a row where its node is a `merge`, `mergeDelayError`,
+    /// `combineLatest`, `groupBy`, `flatMap` or `flatMapDelayError`; and each where a node calls a function of the caller's that may.
     pub fn make<O: Ops<Item = N::Item>, S: Sink<N::Item>>(
         &mut self,
         alloc: Global,
@@ -185,8 +185,8 @@ impl<N: Nodes> Part<N> {
     ///
     /// # Errors
     /// [`NoMemory`] where a growth was refused; the moves made before stand. It comes only where some node of the tree may
-    /// allocate: a `buffer`, `distinct`, `window`, `groupBy`, `flatMap`, `merge`, `mergeDelayError` or `combineLatest`, or a node that
-    /// calls a function of the caller's whose [`Ops`] says that it may (`allocates`).
+    /// allocate: a `buffer`, `distinct`, `window`, `groupBy`, `flatMap`, `flatMapDelayError`, `merge`, `mergeDelayError` or
+    /// `combineLatest`, or a node that calls a function of the caller's whose [`Ops`] says that it may (`allocates`).
     pub fn pump<O: Ops<Item = N::Item>, S: Sink<N::Item>>(
         &mut self,
         alloc: Global,
@@ -239,7 +239,17 @@ impl<N: Nodes + Batches> Part<N> {
     ghost use Rattle.std.specs.Prelude.{◌≡◌, ◌<◌, ◌≤◌, [], None, length, true, false, IfSome};
     ghost use Rattle.rsx_rooted.specs.Made.{FitsOver, HasGoneOnBy};
     ghost use Rattle.rsx_pipe.specs.Fetched.{AreFed, AreFetched, IsFetched};
-    ghost use Rattle.rsx_pipe.specs.Part.{Part as PartView};
+    ghost use Rattle.std.specs.Prelude.{Bool};
+    ghost use Rattle.rsx_types.specs.Meaning.{Meaning};
+    ghost use Rattle.rsx_pipe.specs.Part.{IsQuiet, Part as PartView};
+
+    /// Whether no move is enabled, whatever the sink behind the root edge has room for, by one look at each node. Where it answers no,
+    /// some move may be or not: [`Part::is_idle`] tells.
+    pub fn rests(&self) -> bool
+        ensures { (m : Meaning N.Item) (room : Bool) → result ≡ true → IsQuiet N.Machine m self.now room }
+    {
+        self.rooted.rests()
+    }
 
     /// Pulls at most `most` items through the part and over its root edge, many at once: what that many calls of [`Part::fetch`] would
     /// do it does for all of them. They are in `batch`: the caller puts them into the queue behind the root edge, which has to have

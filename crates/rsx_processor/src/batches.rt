@@ -14,6 +14,14 @@ impl<A: Batches, B: Batches<Item = A::Item>> Batches for EitherNode<A, B> {
     ghost spaces_of = { by_kind A.spaces_of B.spaces_of };
 
     #[inline]
+    fn want_at_rest(&self, asked: u64, sent: u64) -> Option<u64> {
+        match self {
+            EitherNode::Left(node) => node.want_at_rest(asked, sent),
+            EitherNode::Right(node) => node.want_at_rest(asked, sent),
+        }
+    }
+
+    #[inline]
     fn most(&self) -> u64 {
         match self {
             EitherNode::Left(node) => node.most(),

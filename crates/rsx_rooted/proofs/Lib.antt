@@ -1,4 +1,5 @@
 -- Lemmas about trees with the edge from their roots, also where they are cut and joined again, and about the leaves of expressions.
+pub mod AtRest
 pub mod Counted
 pub mod CutNodes
 pub mod Fetches

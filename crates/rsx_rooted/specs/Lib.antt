@@ -13,6 +13,7 @@ pub mod Machines
 pub mod Made
 pub mod Output
 pub mod Regions
+pub mod Resting
 pub mod Rooted
 pub mod Splice
 pub mod Taking

@@ -4,6 +4,7 @@ ghost use Rattle.std.specs.Prelude.{◌≡◌, ℕ, [], length, IfSome};
 ghost use Rattle.rsx_rooted.specs.Made.{moves_of};
 ghost use Rattle.rsx_rooted.specs.declared.batch.Noted.{Noted as NotedSpec};
 
+use crate::resting::want_of_resting;
 use rsx_plain::PlainNode;
 use rsx_sources::Machine;
 use rsx_types::Ops;
@@ -56,6 +57,16 @@ pub trait Batches: Machine {
     ghost use Rattle.rsx_rooted.specs.Taking.{IsItemTaken, IsTakenOff};
     ghost use Rattle.rsx_tree.specs.Fetched.{IsOut};
     ghost use Rattle.rsx_tree.specs.Runs.{Leads};
+    ghost use Rattle.rsx_rooted.specs.Resting.{IsAtRest};
+
+    /// Where it rests with a live edge of which `asked` is asked, and which carried `sent` items: what it wants of its first input in
+    /// all, as [`want_of_resting`] says.
+    #[inline(always)]
+    fn want_at_rest(&self, asked: u64, sent: u64) -> Option<u64>
+        ensures { IfSome result (λ want. IsAtRest Self.Machine self.now asked sent want) }
+    {
+        want_of_resting(self, asked, sent)
+    }
 
     /// For how many items at most it is worth to try a batch. The answer promises nothing.
     fn most(&self) -> u64;

@@ -11,6 +11,7 @@
 //! - [`sink`]: [`Sink`], what takes the signals that go over a root edge.
 //! - [`batch`]: [`Batches`], a node through which several items can go at once, and [`Batch`], such items on their way.
 //! - [`chain`]: [`try_batch`] and [`go_on`], a batch through a tree.
+//! - [`resting`]: whether a tree rests, by one look at each of its nodes.
 //! - [`taking`]: [`hand_many`], several items of a hub at once into the nodes that read it.
 //! - [`law`]: [`put_again`], [`two_regions`], [`root_regions`] and [`stands_on`], what a cut and a join come to.
 //!
@@ -31,7 +32,7 @@
 //! it), `Feeding` (what goes out into the hands of the caller), `Tree` (what `rsx_tree` says of the tree), `Output`
 //! (what has gone out, and what was published), `Built` (what a tree is that has just begun), `Crossings` (which of its edges
 //! have a queue), `Cutting` (what a cut reads off a tree), `Flow`, `Local`, `Splice` and `Regions` (the words in which the laws of
-//! cut and join are stated), `Leaves` and `Inboxes` (the places that leaves take at hubs, and what waits in front of these),
+//! cut and join are stated), `Resting` (a node that rests), `Leaves` and `Inboxes` (the places that leaves take at hubs, and what waits in front of these),
 //! `Items` (the single calls and moves that do what a batch does), `Made` (what was noted of a tree, and what it is after that),
 //! `Machines` and `Went` (what nodes that make batches mean, and what they are after one), `Taking` (several items of a hub at once).
 
@@ -45,6 +46,7 @@ pub mod nodes;
 pub mod places;
 mod plain;
 mod range;
+pub mod resting;
 pub mod rooted;
 mod sender;
 pub mod sink;
@@ -56,6 +58,7 @@ pub use joins::joins_of;
 pub use law::{put_again, root_regions, stands_on, two_regions};
 pub use nodes::{CrossingNodes, Nodes, Route};
 pub use places::{count_in, have_places};
+pub use resting::want_of_resting;
 pub use rooted::{Pumped, Rooted};
 pub use rsx_prefetch::SignalQueue;
 pub use rsx_tree::{Edge, EdgeState, NodeMove};

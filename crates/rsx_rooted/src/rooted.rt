@@ -2,6 +2,7 @@
 
 ghost use Rattle.std.specs.Prelude.{◌≡◌, IfSome, true};
 
+use crate::resting::{rests_in, want_over};
 use crate::sink::Sink;
 use crate::{Batch, Batches, Noted, carry_all, go_on, rest_after, room_over, try_batch};
 use rsx_sources::{Front, Machine, NotMade};
@@ -113,8 +114,8 @@ impl<M: Machine> Rooted<M> {
     /// # Errors
     /// [`NotMade::NotEnabled`] exactly where the move isn't enabled, and [`NotMade::NoMemory`] where a growth was refused. Then
     /// nothing changed. An Ask doesn't allocate. A Send may where the node that takes the signal in is a `buffer`, `distinct`,
-    /// `window`, `groupBy` or `flatMap`; a pick or a row where its node is a `merge`, `mergeDelayError`, `combineLatest`, `groupBy`
-    /// or `flatMap`; and each where a node calls a function of the caller's that may.
+    /// `window`, `groupBy`, `flatMap` or `flatMapDelayError`; a pick or a row where its node is a `merge`, `mergeDelayError`,
+    /// `combineLatest`, `groupBy`, `flatMap` or `flatMapDelayError`; and each where a node calls a function of the caller's that may.
     pub fn make<O: Ops<Item = M::Item>, S: Sink<M::Item>>(
         &mut self,
         alloc: Global,
@@ -464,8 +465,8 @@ impl<M: Machine> Rooted<M> {
     ///
     /// # Errors
     /// [`NoMemory`] where a growth was refused; the moves made before stand. It comes only where some node of the tree may
-    /// allocate: a `buffer`, `distinct`, `window`, `groupBy`, `flatMap`, `merge`, `mergeDelayError` or `combineLatest`, or a node that
-    /// calls a function of the caller's whose [`Ops`] says that it may (`allocates`).
+    /// allocate: a `buffer`, `distinct`, `window`, `groupBy`, `flatMap`, `flatMapDelayError`, `merge`, `mergeDelayError` or
+    /// `combineLatest`, or a node that calls a function of the caller's whose [`Ops`] says that it may (`allocates`).
     pub fn pump<O: Ops<Item = M::Item>, S: Sink<M::Item>>(
         &mut self,
         alloc: Global,
@@ -609,6 +610,22 @@ impl<M: Batches> Rooted<M> {
     ghost use Rattle.rsx_rooted.specs.Fetched.{AreFed, AreFetched};
     ghost use Rattle.rsx_rooted.specs.Items.{room};
     ghost use Rattle.rsx_rooted.specs.Made.{FitsOver, HasGoneOnBy};
+    ghost use Rattle.rsx_rooted.specs.Rooted.{IsQuiet};
+    ghost use Rattle.std.specs.Prelude.{Bool};
+    ghost use Rattle.rsx_types.specs.Meaning.{Meaning};
+
+    /// Whether no move is enabled, whatever the sink behind the root edge has room for, by one look at each node
+    /// ([`Batches::want_at_rest`]). Where it answers no, some move may be or not: [`Rooted::is_idle`] tells.
+    pub fn rests(&self) -> bool
+        ensures { (m : Meaning M.Item) (room : Bool) → result ≡ true → IsQuiet M.Machine m self.now room }
+    {
+        let asked = self.root.demand.asked;
+        let sent = self.root.demand.sent;
+        match want_over(&self.root, &self.tree.machine) {
+            Some(want) => rests_in(&self.tree.inputs, &self.tree.machine, 0, want, asked, sent),
+            None => false,
+        }
+    }
 
     /// Pulls at most `most` items through the tree and over the root edge, many at once: what that many calls of [`Rooted::fetch`]
     /// would do it does for all of them. They are in `batch`: the caller puts them into the queue behind the root edge, which has to

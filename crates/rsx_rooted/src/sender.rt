@@ -6,6 +6,7 @@ ghost use Rattle.rsx_queued.specs.Held.{is_open};
 ghost use Rattle.rsx_rooted.specs.Went.{inside, sender_spaces, sender_went};
 
 use crate::batch::{Batches, Noted};
+use crate::resting::want_of_resting;
 use rsx_queued::{Queued, Sender};
 use rsx_types::Ops;
 use std::alloc::Global;
@@ -14,6 +15,14 @@ impl<M: Batches<Item = T>, T: Drop> Batches for Sender<M, T> {
     ghost went = { sender_went M.went };
 
     ghost spaces_of = { sender_spaces M.spaces_of };
+
+    #[inline]
+    fn want_at_rest(&self, asked: u64, sent: u64) -> Option<u64> {
+        match self {
+            Sender::Direct(node) => node.want_at_rest(asked, sent),
+            Sender::Crossing(_) => want_of_resting(self, asked, sent),
+        }
+    }
 
     #[inline]
     fn most(&self) -> u64 {

@@ -471,7 +471,19 @@ impl<N: Nodes<Item = T> + Batches, T: Drop> Subscription<N, T> {
     ghost use Rattle.rsx_types.specs.declared.signal.Signal.{Signal as SignalSpec};
     ghost use Rattle.rsx_pipe.specs.Part.{pump_allocates};
     ghost use Rattle.rsx_subscriber.specs.Delivered.{IsFull};
-    ghost use Rattle.rsx_subscriber.specs.Pumped.{HasPumped, IsPumped, SomePumped, Spent};
+    ghost use Rattle.rsx_types.specs.Meaning.{Meaning};
+    ghost use Rattle.rsx_subscriber.specs.Pumped.{HasPumped, IsPumped, IsQuiet, SomePumped, Spent};
+
+    /// Whether no move is enabled, by one look at each node. Where it answers no, some move may be or not:
+    /// [`Subscription::is_idle`] tells.
+    fn rests(&self) -> bool
+        ensures { (m : Meaning T) → result ≡ true → IsQuiet N.Machine m self.now }
+    {
+        if self.can_take() {
+            return false;
+        }
+        self.part.rests()
+    }
 
     /// Where nothing is queued, pulls items through the part and hands them to the subscriber, as long as each comes in one go
     /// and the budget lasts, many at once where they come so. Answers how many of the budget are left.
@@ -616,7 +628,7 @@ impl<N: Nodes<Item = T> + Batches, T: Drop> Subscription<N, T> {
             Ok(left) => left,
             Err(NoMemory) => return Err(NoMemory),
         };
-        if self.is_idle() {
+        if self.rests() {
             return Ok(Pumped::Idle(left));
         }
         match self.settle(alloc, ops, id, left, out) {

@@ -16,14 +16,14 @@ returns-in-Err-fetch-clause-pumped g c =
     let k = f.1 in
     (d.0 + f.0, omega (arith, e, k), pumped_more g.N.Machine g.N.Nodes m c.args.id d.0 f.0 c.args.self.now c.deliver.new.self c.fetch.new.self c.args.out.now.signals c.deliver.new.out.signals c.fetch.new.out.signals d.2 f.2)
 
-pub returns-then-is_idle-clause-pumped : goal.returns-then-is_idle-clause-pumped
-returns-then-is_idle-clause-pumped g c =
+pub returns-then-rests-clause-pumped : goal.returns-then-rests-clause-pumped
+returns-then-rests-clause-pumped g c =
     let m = g.O.Ops.meaning c.args.ops.now in
     let d = c.in-Ok.ensures.pumped m in
     let f = c.in-Ok-fetch.ensures.pumped in
     let e = d.1 in
     let k = f.1 in
-    (d.0 + f.0, (omega (arith, e, k), c.is_idle.ensures.yes m c.if-is_idle.true), pumped_more g.N.Machine g.N.Nodes m c.args.id d.0 f.0 c.args.self.now c.deliver.new.self c.fetch.new.self c.args.out.now.signals c.deliver.new.out.signals c.fetch.new.out.signals d.2 f.2)
+    (d.0 + f.0, (omega (arith, e, k), c.rests.ensures m c.if-rests.true), pumped_more g.N.Machine g.N.Nodes m c.args.id d.0 f.0 c.args.self.now c.deliver.new.self c.fetch.new.self c.args.out.now.signals c.deliver.new.out.signals c.fetch.new.out.signals d.2 f.2)
 
 pub returns-in-Ok-settle-clause-pumped : goal.returns-in-Ok-settle-clause-pumped
 returns-in-Ok-settle-clause-pumped g c =
