@@ -7,7 +7,7 @@ ghost use Rattle.rsx_region.specs.Pieces.{Each};
 use rsx_graph::Regions;
 use rsx_runtime::MOST_WORKERS;
 
-/// Whether there may be so many workers, and all regions of subscriptions are below their number.
+/// Whether there may be so many workers, and all regions of subscriptions and feeds are below their number.
 pub(crate) fn has_regions(regions: &Regions, workers: u8) -> bool
     ensures yes { result ≡ true → HaveRegions workers regions.now }
     ensures no { result ≡ false → HaveRegions workers regions.now → ⊥ }
@@ -15,7 +15,9 @@ pub(crate) fn has_regions(regions: &Regions, workers: u8) -> bool
     if workers == 0 || workers > MOST_WORKERS {
         return false;
     }
-    are_below(&regions.roots, workers) && all_below(&regions.senders, workers)
+    are_below(&regions.roots, workers)
+        && all_below(&regions.senders, workers)
+        && all_below(&regions.feed_senders, workers)
 }
 
 /// Whether each of these numbers is below that.
