@@ -7,6 +7,7 @@ ghost use Rattle.std.specs.Prelude.{◌≡◌, ◌<◌, IfErr};
 ghost use Rattle.rsx_script.specs.Fault.{IsRunFault};
 
 use crate::live::LiveScript;
+use rsx_modes::{GATHERED_BYTES, MOST_READS, READ_BYTES};
 use rsx_script::{AppFault, LineRefusal, MOST_BYTES};
 use rsx_types::NoMemory;
 use std::alloc::Global;
@@ -14,12 +15,6 @@ use std::io::{Read, Write};
 use std::sync::Wait;
 use std::thread::Threads;
 use std::time::Clock;
-
-/// The most bytes of one read.
-const READ_BYTES: usize = 4096;
-
-/// So many bytes of answers are written as soon as they have gathered.
-const GATHERED_BYTES: usize = 65_536;
 
 /// A script that is read line by line.
 #[derive(Drop)]
@@ -39,8 +34,8 @@ struct Lines {
 ///
 /// # Errors
 ///
-/// As [`drive`](rsx_modes::drive), but that the number of reads has no bound: a line is never refused for want of memory, which is
-/// `Memory`. That comes also as [`LiveScript::answer`] has it.
+/// As [`drive`](rsx_modes::drive): a line is never refused for want of memory, which is `Memory`. That comes also as
+/// [`LiveScript::answer`] has it.
 pub fn answer_live<H: Threads + Wait + Sync + Clock, R: Read, W: Write>(
     rt: &H,
     alloc: Global,
@@ -82,7 +77,7 @@ impl Lines {
         ensures fault { IfErr result IsRunFault }
     {
         let mut bytes = [0; READ_BYTES];
-        for _ in 0..u64::MAX {
+        for _ in 0..MOST_READS {
             if let Err(fault) = self.write(writer) {
                 return Err(fault);
             }
@@ -97,7 +92,7 @@ impl Lines {
                 Err(_) => return Err(AppFault::Io),
             }
         }
-        Ok(())
+        Err(AppFault::Io)
     }
 
     /// Takes in bytes, answers each line that ends among them, and writes what gathers meanwhile.

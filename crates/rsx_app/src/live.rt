@@ -123,7 +123,7 @@ impl LiveScript {
         LiveAnswer::Live(workers).add_to(alloc, out)
     }
 
-    /// Takes at most so many signals of a subscription. A subscription without a tap gets none before the close.
+    /// Takes at most so many signals of a subscription. One without a tap gets what waits on its root edge.
     fn take<R: Threads + Wait + Sync + Clock>(
         &mut self,
         rt: &R,

@@ -7,7 +7,7 @@ use crate::threads::{Order, serve_order};
 use rsx_demo::{Demo, Val};
 use rsx_live::{LiveGraph, NotStarted, PokeAnswer, Poked, StartedGraph};
 use rsx_session::{Session, SessionRest};
-use rsx_types::{NoMemory, Signal, SubId};
+use rsx_types::{Move, NoMemory, NodeId, Signal, SubId, Tree};
 use std::alloc::Global;
 use std::sync::Wait;
 use std::thread::Threads;
@@ -36,13 +36,14 @@ pub enum Use {
 pub enum Served {
     /// The graph could not go live: there are too few workers, or too many.
     TooFewWorkers,
-    /// The subscription has no tap, or none was named. Only the regions were poked.
+    /// The subscription has no tap to be requested or cancelled by, or none was named. Only the regions were poked.
     NoTap,
     /// It was done, and so many signals were taken.
     Done(u64),
 }
 
-/// Has the graph of a session go live, uses it, and joins it again. What taps gave is kept with the rest of the session.
+/// Has the graph of a session go live, uses it, and joins it again. What taps gave is kept with the rest of the session. Where a
+/// subscription without a tap is to be taken from, it gives what waits on its root edge.
 ///
 /// # Errors
 ///
@@ -64,10 +65,23 @@ pub fn serve<R: Threads + Wait + Sync + Clock>(
         Err(NotStarted::NotJoined) => return Err(NoMemory),
     };
     let (started, served) = use_live(rt, alloc, started, &mut rest, used)?;
-    match started.close() {
-        Ok(graph) => Ok((rest.put_together(graph), served)),
-        Err(_) => Err(NoMemory),
+    let mut graph = match started.close() {
+        Ok(graph) => graph,
+        Err(_) => return Err(NoMemory),
+    };
+    let (Use::Take(sub, count), Served::NoTap) = (used, served) else {
+        return Ok((rest.put_together(graph), served));
+    };
+    // Once its tree has ended a subscription has no tap any more. What waits on its root edge is taken of the graph then.
+    let mut taken: u64 = 0;
+    for _ in 0..count {
+        let Ok(Some((_, signal))) = graph.make(alloc, Move::Take(Tree::Sub(sub), NodeId(0))) else {
+            break;
+        };
+        rest.receive(sub, signal)?;
+        taken = taken.saturating_add(1);
     }
+    Ok((rest.put_together(graph), Served::Done(taken)))
 }
 
 /// Serves the regions until none makes a move, does what is to be done, and serves them again.

@@ -58,5 +58,5 @@ pub use judge::Style;
 pub use law::reads_back;
 pub use line::Line;
 pub use names::function_name;
-pub use run::answer_lines;
+pub use run::{GATHERED_BYTES, MOST_READS, READ_BYTES, answer_lines};
 pub use texts::{add_title, refusal_text};

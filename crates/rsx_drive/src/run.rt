@@ -16,13 +16,13 @@ use std::alloc::Global;
 use std::io::{ErrorKind, Read, Write};
 
 /// The most bytes of one read.
-const READ_BYTES: usize = 4096;
+pub const READ_BYTES: usize = 4096;
 
 /// The most reads of one input.
-const MOST_READS: u32 = 16_777_216;
+pub const MOST_READS: u32 = 16_777_216;
 
 /// So many bytes of answers are written as soon as they have gathered.
-const GATHERED_BYTES: usize = 65_536;
+pub const GATHERED_BYTES: usize = 65_536;
 
 /// Has each line that the reader gives answered, and writes the answers, until the input ends. A last line needs no
 /// newline.

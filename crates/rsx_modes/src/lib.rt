@@ -22,8 +22,8 @@ mod texts;
 pub use judge::judge_input;
 pub use modes::drive;
 
-// What a program needs beside these: its command line, and the modes that it names.
-pub use rsx_drive::{CommandLine, Style, command_line_of};
+// What a program needs beside these: its command line, how much it reads and gathers, and the modes that it names.
+pub use rsx_drive::{CommandLine, GATHERED_BYTES, MOST_READS, READ_BYTES, Style, command_line_of};
 pub use rsx_script::Mode;
 // What `tck` answers of an expression is had by these.
 pub use rsx_verify::{VerifyRefusal, verify};
