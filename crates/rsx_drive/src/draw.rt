@@ -14,7 +14,7 @@ use crate::input::written_place;
 use crate::{Answers, answer_lines};
 use rsx_demo::Val;
 use rsx_model::Expr;
-use rsx_script::{AppFault, LineRefusal, parse_expression};
+use rsx_script::{AppFault, LineRefusal, parse_expr};
 use std::alloc::Global;
 use std::io::{Read, Write};
 
@@ -74,7 +74,7 @@ fn draw_line(alloc: Global, line: &[u8], out: &mut String) -> Result<(), LineRef
     if written_place(line).is_none() {
         return Ok(());
     }
-    match parse_expression(alloc, line) {
+    match parse_expr(alloc, line) {
         Ok(expr) => match add_drawing(alloc, &expr, out) {
             Ok(()) => Ok(()),
             Err(refusal) => Err(refusal),

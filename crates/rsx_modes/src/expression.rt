@@ -9,7 +9,7 @@ use crate::texts::runs_text;
 use rsx_demo::{Demo, Val};
 use rsx_drive::{AnswersExpressions, Style, refusal_text};
 use rsx_model::Expr;
-use rsx_script::{LineRefusal, parse_expression};
+use rsx_script::{LineRefusal, parse_expr};
 use rsx_types::NoMemory;
 use rsx_verify::{VerifyRefusal, verify};
 use std::alloc::Global;
@@ -66,7 +66,7 @@ impl AnswersExpressions for Runs {
         line: &[u8],
         out: &mut String,
     ) -> Result<(), LineRefusal> {
-        match parse_expression(alloc, line) {
+        match parse_expr(alloc, line) {
             Ok(expr) => match add_answer(alloc, style, number, &expr, out) {
                 Ok(()) => Ok(()),
                 Err(refusal) => Err(refusal),

@@ -3,7 +3,7 @@
 ghost use Rattle.std.specs.Prelude.{◌≡◌, ◌+◌, ◌++◌, ◌∷◌, length, IfOk};
 ghost use Rattle.rsx_script.specs.Expected.{goes_past, tried};
 
-use crate::parse::{parse_expression, parse_line};
+use crate::parse::{parse_expr, parse_line};
 use crate::words::LineRefusal;
 use rsx_types::NoMemory;
 use std::alloc::{AllocError, Global};
@@ -121,7 +121,7 @@ fn with_word(alloc: Global, begun: &[u8], word: &str) -> Result<Vec<u8>, AllocEr
 fn refusal_of(alloc: Global, reads: Reads, line: &[u8]) -> Option<LineRefusal> {
     match reads {
         Reads::Command => parse_line(alloc, line).err(),
-        Reads::Expression | Reads::Judged => parse_expression(alloc, line).err(),
+        Reads::Expression | Reads::Judged => parse_expr(alloc, line).err(),
     }
 }
 

@@ -17,7 +17,7 @@
 //! What a line of a script asks for.
 //!
 //! - [`parse_line`]: a line's command, with its numbers, names and expressions; [`Command`]: what commands there are.
-//! - [`parse_expression`]: the expression that a line is.
+//! - [`parse_expr`]: the expression that a line is.
 //!
 //! What the words of a line ask for is defined in `specs/`, as a person reads them from left to right, and the parser is proved to
 //! give that; a line that asks for nothing is refused at the column that the definition names.
@@ -61,7 +61,7 @@ pub use fault::AppFault;
 pub use live::{LiveAnswer, LiveCommand, parse_live_line};
 pub use mode::{Mode, Subcommand, mode_named, subcommand_named};
 pub use numbers::{number_i64, number_u8, number_u32, number_u64};
-pub use parse::{MOST_BYTES, parse_expression, parse_line};
+pub use parse::{MOST_BYTES, parse_expr, parse_line};
 pub use print::{Answer, Rest, Shown};
 pub use remembering::Remembering;
 pub use words::{LineRefusal, Word, Words};

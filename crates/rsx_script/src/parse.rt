@@ -49,7 +49,7 @@ pub fn parse_line(alloc: Global, line: &[u8]) -> Result<Option<Command>, LineRef
 ///
 /// As [`parse_line`]; a line that is empty or spaces alone is `Syntax` behind its last byte.
 #[tactic(auto, unfolding(crate::specs::Commands::expression_of_line))]
-pub fn parse_expression(alloc: Global, line: &[u8]) -> Result<Expr<Val>, LineRefusal>
+pub fn parse_expr(alloc: Global, line: &[u8]) -> Result<Expr<Val>, LineRefusal>
     ensures meaning { GivesInMemory tree_of result (expression_of_line line.now) }
     ensures long { 4096 < length line.now → result ≡ Err LineRefusal.TooLong }
 {

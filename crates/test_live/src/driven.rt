@@ -9,7 +9,7 @@ use rsx_demo::Val;
 use rsx_graph::{Deliveries, Graph, Pumped};
 use rsx_live::{LiveGraph, NotStarted, StartedGraph};
 use rsx_model::Expr;
-use rsx_script::parse_expression;
+use rsx_script::parse_expr;
 use rsx_types::{Ops, Signal, SubId};
 use std::alloc::Global;
 
@@ -41,7 +41,7 @@ pub enum Extra {
 /// # Errors
 /// Where it isn't one.
 pub fn parsed(alloc: Global, text: &str) -> Result<Expr<Val>> {
-    match parse_expression(alloc, text.as_bytes()) {
+    match parse_expr(alloc, text.as_bytes()) {
         Ok(expr) => Ok(expr),
         Err(why) => bail!("{text}: {why}"),
     }

@@ -8,7 +8,7 @@ use anyhow::{Result, bail};
 use rsx_demo::{Demo, Val};
 use rsx_graph::{Answer, Deliveries, Graph, Pumped, Refusal, Step};
 use rsx_model::{Expr, scratch};
-use rsx_script::parse_expression;
+use rsx_script::parse_expr;
 use rsx_types::{Ending, HubId, HubKind, Move, NodeId, StreamValue, SubId, Tree};
 use std::alloc::Global;
 
@@ -68,9 +68,9 @@ fn new_graph(alloc: Global) -> Result<Graph<Demo>> {
 
 /// The expression that this text is.
 fn parsed(alloc: Global, text: &str) -> Result<Expr<Val>> {
-    match parse_expression(alloc, text.as_bytes()) {
+    match parse_expr(alloc, text.as_bytes()) {
         Ok(expr) => Ok(expr),
-        Err(_) => match parse_expression(alloc, text.as_bytes()) {
+        Err(_) => match parse_expr(alloc, text.as_bytes()) {
             Ok(expr) => Ok(expr),
             Err(why) => bail!("{text}: {why}"),
         },

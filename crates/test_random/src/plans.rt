@@ -9,7 +9,7 @@ use anyhow::{Result, bail};
 use rsx_demo::{Demo, Val};
 use rsx_graph::Graph;
 use rsx_model::Expr;
-use rsx_script::parse_expression;
+use rsx_script::parse_expr;
 use rsx_types::{HubId, HubKind};
 use std::alloc::Global;
 
@@ -141,7 +141,7 @@ fn over_one(alloc: Global, numbers: &mut Numbers) -> Result<Expr<Val>> {
 
 /// The expression with this text.
 fn parsed(alloc: Global, text: &str) -> Result<Expr<Val>> {
-    match parse_expression(alloc, text.as_bytes()) {
+    match parse_expr(alloc, text.as_bytes()) {
         Ok(expr) => Ok(expr),
         Err(why) => bail!("{text}: {why}"),
     }

@@ -5,7 +5,7 @@ use anyhow::{Result, bail};
 use rsx_demo::{Demo, Val};
 use rsx_graph::{Deliveries, Graph, Pieces, Pumped};
 use rsx_model::{Expr, Note};
-use rsx_script::parse_expression;
+use rsx_script::parse_expr;
 use rsx_types::{HubId, HubKind, SubId, Tree};
 use std::alloc::Global;
 
@@ -80,7 +80,7 @@ pub fn compare(alloc: Global, text: &str) -> Result<Compared> {
 /// # Errors
 /// Where it isn't one.
 pub fn parsed(alloc: Global, text: &str) -> Result<Expr<Val>> {
-    match parse_expression(alloc, text.as_bytes()) {
+    match parse_expr(alloc, text.as_bytes()) {
         Ok(expr) => Ok(expr),
         Err(why) => bail!("{text}: {why}"),
     }
