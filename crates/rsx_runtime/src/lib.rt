@@ -22,7 +22,7 @@
 //! A thread publishes at a hub by an [`Emitter`], and a subscriber requests, takes and cancels by a [`Tap`]; each is an end of a link
 //! of the graph.
 //!
-//! So far a live graph has pieces and no hubs, and nothing makes one of a graph: emitters and taps stand over any link.
+//! A live graph has pieces and no hubs. Emitters and taps stand over any link; `rsx_live_parts` makes the pieces and taps of a graph.
 //!
 //! The definitions stand in `specs/`: `Poking` (what a poke does), `Passing` (what the calls of a pass change), `Resting` and `Tokens`
 //! (parkers with their tokens, and who is roused), `Beginning` (the gates that are made), `Closing` (trees that were cut, with their
