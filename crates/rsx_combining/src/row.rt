@@ -153,6 +153,7 @@ impl<T: Drop> Gathered<T> for Vec<T> {
         }
     }
 
+    #[inline(always)]
     fn row_of_two<O: Ops<Item = T>>(
         &mut self,
         alloc: Global,
@@ -186,6 +187,7 @@ impl<T: Drop> Gathered<T> for Vec<T> {
         }
     }
 
+    #[inline(always)]
     fn row_with_other<O: Ops<Item = T>>(
         &mut self,
         alloc: Global,
@@ -214,6 +216,7 @@ impl<T: Drop> Gathered<T> for Vec<T> {
         }
     }
 
+    #[inline(always)]
     fn next_row<O: Ops<Item = T>>(
         &mut self,
         alloc: Global,

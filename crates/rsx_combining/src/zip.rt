@@ -360,6 +360,7 @@ impl<T: Drop> Machine for ZipNode<T> {
     }
 
     /// Makes a row, where one can be made, and hands it out at once.
+    #[inline(always)]
     fn step_item<O: Ops<Item = T>>(
         &mut self,
         alloc: Global,

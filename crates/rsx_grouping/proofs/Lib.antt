@@ -1,6 +1,7 @@
 pub mod Chosen
 pub mod Copied
 pub mod Copies
+pub mod FewKeys
 pub mod Fresh
 pub mod Idle
 pub mod Index
@@ -9,5 +10,6 @@ pub mod MayWait
 pub mod Picks
 pub mod Rests
 pub mod SeenKeys
+pub mod Still
 pub mod Tables
 pub mod Waits

@@ -1,12 +1,16 @@
 //! The keys of the lanes.
 
-ghost use Rattle.std.specs.Prelude.{◌≡◌, IfErr, IfOk};
+ghost use Rattle.std.specs.Prelude.{◌≡◌, IfErr, IfOk, nat_eq};
+ghost use Rattle.std.specs.List.{position};
 ghost use Rattle.rsx_grouping.specs.Keys.{Rises, IsAt, IsGapFor};
 
 use rsx_types::NoMemory;
 use rsx_values::MOST_KEYS;
 use std::alloc::Global;
 use std::marker::Model;
+
+/// The most keys that are looked at one by one.
+const FEW_KEYS: usize = 8;
 
 /// A key and the number of its lane.
 #[derive(Clone, Copy, Drop)]
@@ -51,6 +55,13 @@ impl Model for LaneKeys {
     ghost invariant = { λ k. IsIndex k.keys.items k.sorted.items };
 }
 
+/// Where this key stands among these, looked at one by one.
+fn look_for(keys: &[u64], key: u64) -> Option<usize>
+    ensures { result ≡ position (nat_eq key) keys.now }
+{
+    keys.iter().position(|other| key == *other)
+}
+
 /// Where this key stands among these, or where it would stand.
 fn search(sorted: &[NumberedKey], key: u64) -> Result<usize, usize>
     requires { Rises sorted.now }
@@ -88,6 +99,10 @@ impl LaneKeys {
         ensures lane { IfSome result (λ i. slice_get self.now i ≡ Some key) }
         ensures found { is_some result ≡ is_member nat_eq self.now key }
     {
+        // Few keys are looked at one by one, which is quicker.
+        if self.keys.len() <= FEW_KEYS {
+            return look_for(self.keys.as_slice(), key);
+        }
         match search(self.sorted.as_slice(), key) {
             Ok(at) => Some(self.sorted[at].lane),
             Err(_) => None,

@@ -469,6 +469,12 @@ impl<T: Drop> Machine for GroupByNode<T> {
         Err(NotMade::NotEnabled)
     }
 
+    /// As long as the input goes on, nothing can be picked where nothing waits.
+    #[inline]
+    fn never_steps(&self) -> bool {
+        self.main.is_coming() && self.table.is_known_quiet()
+    }
+
     /// Picks the one lane in which something may wait, where an item waits there.
     #[inline]
     fn step_item<O: Ops<Item = T>>(

@@ -255,6 +255,14 @@ impl<T: Drop> LaneTable<T> {
         are_told_quiet(self.rows.as_slice(), self.may_wait)
     }
 
+    /// Whether it is known, without a look at any lane, that nothing waits.
+    #[inline]
+    pub(crate) fn is_known_quiet(&self) -> bool
+        ensures { result ≡ true → are_quiet self.now ≡ true }
+    {
+        matches!(self.may_wait, MayWait::Nowhere)
+    }
+
     /// Whether the endings of all lanes were picked.
     pub fn is_gone(&self) -> bool
         ensures { result ≡ are_gone self.now }

@@ -281,6 +281,10 @@ out_several_by m true s x t h = λ asked sent less.
     let o = h asked sent less in
     (Several o.0, step_several m s asked sent o.0 o.1, o.2, out_several m o.0 x t o.3)
 
+-- the items that it puts out by steps
+pub several_stepped_out : {T : Type 0} (m : Meaning T) (xs : List T) (n k : SeveralNode T) → ArePopped (IsOutBy several_machine m true) n xs k → ArePopped (IsOutBy kind_machine m true) (Several n) xs (Several k)
+several_stepped_out m xs n k h = popped_in Several (IsOutBy several_machine m true) (IsOutBy kind_machine m true) (out_several_by m true) xs n k h
+
 pub passed_several_all : {T : Type 0} (m : Meaning T) (i : ℕ) (n : SeveralNode T) (noted : Noted T) (xs ys : List T) → ((new : SeveralNode T) → several_went n noted new → ArePassed (IsIn several_machine m i) (IsOutBy several_machine m noted.by_step) n xs ys new) → (new : AnyNode T) → any_went (Several n) noted new → ArePassed (IsIn kind_machine m i) (IsOutBy kind_machine m noted.by_step) (Several n) xs ys new
 passed_several_all m i n noted xs ys h (Several k) w = passed_in Several (IsIn several_machine m i) (IsOutBy several_machine m noted.by_step) (IsIn kind_machine m i) (IsOutBy kind_machine m noted.by_step) (in_several m i) (out_several_by m noted.by_step) xs ys n k (h k w)
 passed_several_all m i n noted xs ys h (Source k) w = absurd w

@@ -23,3 +23,4 @@ pub mod SteppedOut
 pub mod TakenOff
 pub mod Wants
 pub mod Windows
+pub mod ZipRows

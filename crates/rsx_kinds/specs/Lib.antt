@@ -28,3 +28,4 @@ pub mod Spaces
 pub mod TreeLaws
 pub mod Went
 pub mod ZipRests
+pub mod ZipRows

@@ -375,10 +375,8 @@ impl<T: Drop> Machine for AnyNode<T> {
             AnyNode::Source(_) | AnyNode::Plain(_) | AnyNode::PublishOn(_) | AnyNode::Window(_) =>
                 true,
             AnyNode::Several(node) => node.never_steps(),
-            AnyNode::PublishOnEager(_)
-            | AnyNode::FlatMap(_)
-            | AnyNode::FlatMapDelay(_)
-            | AnyNode::GroupBy(_) => false,
+            AnyNode::GroupBy(node) => node.never_steps(),
+            AnyNode::PublishOnEager(_) | AnyNode::FlatMap(_) | AnyNode::FlatMapDelay(_) => false,
         }
     }
 

@@ -8,6 +8,7 @@ ghost use Rattle.rsx_kinds.specs.Went.{any_went, several_went, source_went};
 ghost use Rattle.rsx_merging.specs.PublishOn.{publish_takes};
 ghost use Rattle.rsx_rooted.specs.Resting.{IsAtRest};
 
+use crate::zip_rows::RowsOut;
 use crate::{AnyNode, SeveralNode, SourceNode};
 use rsx_combining::PassingRows;
 use rsx_merging::PublishOnNode;
@@ -15,6 +16,10 @@ use rsx_rooted::{After, Batches, FEWEST_IN_BATCH, Noted, want_of_resting};
 use rsx_sources::{Front, Machine};
 use rsx_types::Ops;
 use std::alloc::Global;
+
+/// The most rows that are made at once. For more of them a piece of memory would be wanted that is so large that allocators put all
+/// small free ones together first, in which the rows of lists of items find their place.
+const MOST_ROWS: u64 = 32;
 
 impl<T: Drop> Batches for SourceNode<T> {
     ghost went = { source_went };
@@ -176,6 +181,32 @@ impl<T: Drop> Batches for SeveralNode<T> {
         }
     }
 
+    /// A zip makes rows of the items that wait at all of its inputs.
+    #[inline]
+    fn step_items<O: Ops<Item = T>>(
+        &mut self,
+        alloc: Global,
+        ops: &O,
+        most: u64,
+        items: &mut Vec<T>,
+    ) -> bool {
+        match self {
+            SeveralNode::Zip(node) => match node.queued_at(0) {
+                Some(waiting) if waiting >= FEWEST_IN_BATCH => node.rows_out(
+                    alloc,
+                    ops,
+                    most.min(MOST_ROWS),
+                    items,
+                ),
+                _ => false,
+            },
+            SeveralNode::Concat(_)
+            | SeveralNode::Merge(_)
+            | SeveralNode::MergeDelay(_)
+            | SeveralNode::Latest(_) => false,
+        }
+    }
+
     fn go_on(&mut self, noted: Noted<T>)
         ensures { several_went self.old noted self.new }
     {
@@ -311,6 +342,27 @@ impl<T: Drop> Batches for AnyNode<T> {
             AnyNode::Source(node) => node.take_out(alloc, ops, most, items),
             AnyNode::Plain(_)
             | AnyNode::Several(_)
+            | AnyNode::PublishOn(_)
+            | AnyNode::PublishOnEager(_)
+            | AnyNode::Window(_)
+            | AnyNode::FlatMap(_)
+            | AnyNode::FlatMapDelay(_)
+            | AnyNode::GroupBy(_) => false,
+        }
+    }
+
+    #[inline]
+    fn step_items<O: Ops<Item = T>>(
+        &mut self,
+        alloc: Global,
+        ops: &O,
+        most: u64,
+        items: &mut Vec<T>,
+    ) -> bool {
+        match self {
+            AnyNode::Several(node) => node.step_items(alloc, ops, most, items),
+            AnyNode::Source(_)
+            | AnyNode::Plain(_)
             | AnyNode::PublishOn(_)
             | AnyNode::PublishOnEager(_)
             | AnyNode::Window(_)

@@ -340,6 +340,17 @@ impl<N: Batches> Batches for Boxed<N> {
         self.node.take_out(alloc, ops, most, items)
     }
 
+    #[inline]
+    fn step_items<O: Ops<Item = Self::Item>>(
+        &mut self,
+        alloc: Global,
+        ops: &O,
+        most: u64,
+        items: &mut Vec<Self::Item>,
+    ) -> bool {
+        self.node.step_items(alloc, ops, most, items)
+    }
+
     fn go_on(&mut self, noted: Noted<Self::Item>)
         ensures { N.went self.old noted self.new }
     {

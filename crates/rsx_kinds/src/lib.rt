@@ -48,6 +48,7 @@ mod queues;
 pub mod several_node;
 pub mod source_node;
 mod trees;
+mod zip_rows;
 
 pub use any_node::AnyNode;
 pub use boxed::Boxed;

@@ -3,6 +3,7 @@
 ghost use Rattle.std.specs.Prelude.{◌≡◌};
 
 use crate::kind::SeveralKind;
+use crate::zip_rows::RowsOut;
 use rsx_combining::{CombineLatestNode, ZipNode};
 use rsx_delayed::MergeDelayNode;
 use rsx_merging::{ConcatNode, MergeNode};
@@ -330,7 +331,7 @@ impl<T: Drop> Machine for SeveralNode<T> {
             SeveralNode::Concat(_) => None,
             SeveralNode::Merge(node) => node.step_item(alloc, ops, asked, sent),
             SeveralNode::MergeDelay(node) => node.step_item(alloc, ops, asked, sent),
-            SeveralNode::Zip(node) => node.step_item(alloc, ops, asked, sent),
+            SeveralNode::Zip(node) => node.row_out(alloc, ops, asked, sent),
             SeveralNode::Latest(node) => node.step_item(alloc, ops, asked, sent),
         }
     }

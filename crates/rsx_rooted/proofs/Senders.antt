@@ -83,6 +83,10 @@ popped_direct_all b went m n noted xs h (Crossing k) w = absurd w
 pub popped_direct : {M T : Type 0} (b : Machine M T) (m : Meaning T) (xs : List T) (n k : M) → ArePopped (IsOut b m) n xs k → ArePopped (IsOut (sender_machine b) m) (Direct n) xs (Direct k)
 popped_direct b m xs n k h = popped_in Direct (IsOut b m) (IsOut (sender_machine b) m) (out_direct b m) xs n k h
 
+-- those that it puts out by steps
+pub popped_direct_by : {M T : Type 0} (b : Machine M T) (m : Meaning T) (by : Bool) (xs : List T) (n k : M) → ArePopped (IsOutBy b m by) n xs k → ArePopped (IsOutBy (sender_machine b) m by) (Direct n) xs (Direct k)
+popped_direct_by b m by xs n k h = popped_in Direct (IsOutBy b m by) (IsOutBy (sender_machine b) m by) (out_direct_by b m by) xs n k h
+
 -- ---- over an empty queue
 
 -- a node with an empty queue

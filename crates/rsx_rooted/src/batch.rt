@@ -120,6 +120,25 @@ pub trait Batches: Machine {
         false
     }
 
+    /// Makes a pick or a row for each of at most so many items that wait in it, as [`Machine::step_item`] does, and puts the items that
+    /// come of them into the list, which is empty. It answers no where it doesn't do so at once, as for want of memory. Then nothing has
+    /// changed.
+    #[inline(always)]
+    fn step_items<O: Ops<Item = Self::Item>>(
+        &mut self,
+        alloc: Global,
+        ops: &O,
+        most: u64,
+        items: &mut Vec<Self::Item>,
+    ) -> bool
+        requires { items.old.items ≡ [] }
+        ensures yes { result ≡ true → ArePopped (IsOutBy Self.Machine (O.meaning ops.now) true) self.old items.new.items self.new }
+        ensures most { length items.new.items ≤ most }
+        ensures no { result ≡ false → (self.new ≡ self.old) × (items.new.items ≡ []) }
+    {
+        false
+    }
+
     /// Goes on by a batch, as it noted.
     fn go_on(&mut self, noted: Noted<Self::Item>)
         ensures { went self.old noted self.new };

@@ -333,6 +333,9 @@ impl<M: Machine> Rooted<M> {
         ensures ok { IfOk result (λ o. IsFetched M.Machine (O.meaning ops.now) left.old self.old o left.new self.new) }
         ensures err { OnErr result (IsFetched M.Machine (O.meaning ops.now) left.old self.old None left.new self.new) }
     {
+        if self.tree.machine.never_steps() {
+            return Ok(None);
+        }
         let mut first = None;
         // Where a step seldom gives an item out at once, it is cheaper to look for one first.
         if !self.tree.machine.steps_out() {
@@ -732,8 +735,36 @@ impl<M: Batches> Rooted<M> {
     {
         match &self.tree.inputs {
             Inputs::End => self.take_out_of_root(alloc, ops, most, left, items),
-            Inputs::More(_, _, _, _) => false,
+            Inputs::More(_, _, _, _) => self.step_out_of_root(alloc, ops, most, left, items),
         }
+    }
+
+    /// The same of items that come of picks and rows of the root, each of which takes one of the budget, too.
+    #[inline(never)]
+    fn step_out_of_root<O: Ops<Item = M::Item>>(
+        &mut self,
+        alloc: Global,
+        ops: &O,
+        most: u64,
+        left: &mut u32,
+        items: &mut Vec<M::Item>,
+    ) -> bool
+        requires items { items.old.items ≡ [] }
+        requires room { most ≤ room (edge_view self.old.root) }
+        ensures yes { result ≡ true → AreFetched M.Machine (O.meaning ops.now) left.old self.old items.new.items left.new self.new }
+        ensures most { result ≡ true → length items.new.items ≤ most }
+        ensures behind { result ≡ true → length items.new.items ≤ left.new }
+        ensures no { result ≡ false → (self.new ≡ self.old) × (left.new ≡ left.old) × (items.new.items ≡ []) }
+    {
+        let budget = *left;
+        let fewer = most.min(u64::from(budget / 3));
+        if !self.tree.machine.step_items(alloc, ops, fewer, items) {
+            return false;
+        }
+        let stepped = items.len() as u64;
+        carry_all(&mut self.root, stepped);
+        *left = budget - 2 * stepped as u32;
+        true
     }
 
     /// The same, whatever stands below.

@@ -89,6 +89,20 @@ impl<M: Batches<Item = T>, T: Drop> Batches for Sender<M, T> {
         }
     }
 
+    #[inline]
+    fn step_items<O: Ops<Item = T>>(
+        &mut self,
+        alloc: Global,
+        ops: &O,
+        most: u64,
+        items: &mut Vec<T>,
+    ) -> bool {
+        match self {
+            Sender::Direct(node) => node.step_items(alloc, ops, most, items),
+            Sender::Crossing(_) => false,
+        }
+    }
+
     fn go_on(&mut self, noted: Noted<T>)
         ensures { sender_went M.went self.old noted self.new }
     {

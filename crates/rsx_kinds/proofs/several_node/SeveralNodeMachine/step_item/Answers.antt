@@ -11,7 +11,7 @@ returns-in-MergeDelay-clause-out g c =
 
 pub returns-in-Zip-clause-out : goal.returns-in-Zip-clause-out
 returns-in-Zip-clause-out g c =
-    rw c.in-Zip.is (stepped_out_zip (g.O.Ops.meaning c.args.ops.now) c.in-Zip.node c.step_item-in-Zip.new.self c.args.asked c.args.sent c.step_item-in-Zip.result c.step_item-in-Zip.ensures.out)
+    rw c.in-Zip.is (stepped_out_zip (g.O.Ops.meaning c.args.ops.now) c.in-Zip.node c.row_out.new.self c.args.asked c.args.sent c.row_out.result c.row_out.ensures.out)
 
 pub returns-in-Latest-clause-out : goal.returns-in-Latest-clause-out
 returns-in-Latest-clause-out g c =

@@ -2,6 +2,9 @@ use Rattle.std.proofs.Common.{None, refl}
 use Rattle.rsx_rooted.proofs.Fetches.{fetched_after, fetched_first, fetched_nothing, fetched_still}
 use Rattle.rsx_rooted.proofs.rooted.Rooted.count_step.Goals as goal
 
+pub returns-then-never_steps-clause-ok : goal.returns-then-never_steps-clause-ok
+returns-then-never_steps-clause-ok g c = fetched_nothing g.M.Machine (g.O.Ops.meaning c.args.ops.now) c.args.left.now c.args.self.now
+
 pub returns-then-is_none-clause-ok : goal.returns-then-is_none-clause-ok
 returns-then-is_none-clause-ok g c = fetched_nothing g.M.Machine (g.O.Ops.meaning c.args.ops.now) c.args.left.now c.args.self.now
 
