@@ -7,9 +7,8 @@
 //! it answers is tested, and not proved.
 
 use crate::emitters::{Emitters, Publication};
+use crate::late::late_refusal;
 use crate::serving::{Served, Use, serve};
-use rsx_demo::Val;
-use rsx_model::{Below, Expr, below_of, refusal_of};
 use rsx_script::{Answer, Command, LineRefusal, LiveAnswer, LiveCommand, parse_live_line};
 use rsx_session::{Session, View};
 use rsx_types::{HubId, NoMemory, SubId};
@@ -21,9 +20,6 @@ use std::time::Clock;
 
 /// What `live` answers where there are too few workers for the graph's regions, or none, or more than there may be.
 const TOO_FEW_WORKERS: &str = "K3";
-
-/// What `subscribe` answers while the graph is live, where a node of the expression would be in another region than 0.
-const OTHER_REGION: &str = "K4";
 
 /// What `live` answers where more waits at an emitter than its hub has room for.
 const OVERFULL: &str = "K5";
@@ -38,6 +34,8 @@ pub struct LiveScript {
     emitters: Emitters,
     /// How many workers there are, while the graph is live.
     workers: Option<u8>,
+    /// How many places are left for subscriptions, while the graph is live.
+    places: u64,
 }
 
 impl LiveScript {
@@ -52,6 +50,7 @@ impl LiveScript {
             session,
             emitters: Emitters::new(alloc),
             workers: None,
+            places: 0,
         })
     }
 
@@ -120,6 +119,7 @@ impl LiveScript {
             return Answer::Refused(OVERFULL).add_to(alloc, out);
         }
         self.workers = Some(workers);
+        self.places = self.session.places();
         LiveAnswer::Live(workers).add_to(alloc, out)
     }
 
@@ -219,8 +219,8 @@ impl LiveScript {
             Command::Request(sub, count) => Use::Request(*sub, *count),
             Command::Cancel(sub) => Use::Cancel(*sub),
             Command::Subscribe(expr) => {
-                if self.is_elsewhere(expr) {
-                    return Answer::Refused(OTHER_REGION).add_to(alloc, out);
+                if let Some(refusal) = late_refusal(expr, self.session.hubs(), self.places) {
+                    return Answer::Refused(refusal).add_to(alloc, out);
                 }
                 Use::Nothing
             }
@@ -229,14 +229,12 @@ impl LiveScript {
         if let Served::Done(_) = self.serve(rt, alloc, workers, used)? {
             return Answer::Done.add_to(alloc, out);
         }
+        let before = self.session.subscriptions();
         self.answer_beside(alloc, command, out)?;
+        let come = self.session.subscriptions().saturating_sub(before) as u64;
+        self.places = self.places.saturating_sub(come);
         self.serve(rt, alloc, workers, Use::Nothing)?;
         Ok(())
-    }
-
-    /// Whether a node of this expression would be in another region than 0. A bad expression is refused for that, and not here.
-    fn is_elsewhere(&self, expr: &Expr<Val>) -> bool {
-        refusal_of(expr, self.session.hubs() as u64).is_none() && has_other_region(expr)
     }
 
     /// Has the graph live for one use of it, and joins it again.
@@ -257,32 +255,4 @@ impl LiveScript {
         self.session = session;
         Ok(served)
     }
-}
-
-/// Whether some node of an expression is in another region than 0: whether it has a `publishOn` or a `publishOnEager` of another worker.
-#[cycle(regions)]
-fn has_other_region<T>(expr: &Expr<T>) -> bool {
-    let worker = match expr {
-        Expr::On(worker, _, _) => *worker,
-        Expr::OnEager(worker, _, _) => *worker,
-        _ => 0,
-    };
-    if worker != 0 {
-        return true;
-    }
-    match below_of(expr) {
-        Below::One(input) => has_other_region(input),
-        Below::Inputs(inputs) => have_other_regions(inputs),
-    }
-}
-
-/// The same of several expressions.
-#[cycle(regions)]
-fn have_other_regions<T>(exprs: &[Expr<T>]) -> bool {
-    for expr in exprs {
-        if has_other_region(expr) {
-            return true;
-        }
-    }
-    false
 }

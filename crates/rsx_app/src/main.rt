@@ -16,6 +16,7 @@
 //! read.
 
 mod emitters;
+mod late;
 mod lines;
 mod live;
 mod serving;

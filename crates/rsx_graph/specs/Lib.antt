@@ -6,6 +6,7 @@ pub mod Kinds
 pub mod Limits
 pub mod Many
 pub mod Pieces
+pub mod Places
 pub mod Pumped
 pub mod Read
 pub mod Replayed

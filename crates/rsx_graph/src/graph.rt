@@ -10,6 +10,7 @@ ghost use Rattle.rsx_graph_state.specs.Begun.{HaveJoined, have_places};
 ghost use Rattle.rsx_graph_state.specs.Answers.{HasAsked, IsLookRefusal, IsSubscribeId, state_at};
 ghost use Rattle.rsx_graph_state.specs.History.{with_made};
 ghost use Rattle.rsx_graph_calls.specs.Edits.{NameHubs};
+ghost use Rattle.rsx_graph_calls.specs.Places.{places as places_of};
 ghost use Rattle.rsx_graph_calls.specs.Regions.{HasRegion, with_regions};
 ghost use Rattle.rsx_graph_calls.specs.Requests.{with_past};
 ghost use Rattle.rsx_graph_calls.specs.Subscribing.{IsSubscribeRefusal, with_subscriber};
@@ -23,7 +24,7 @@ ghost use Rattle.rsx_graph_state.specs.declared.TheConstants.{MOST_HUBS, MOST_SU
 
 use crate::step::Step;
 use rsx_demand::UNBOUNDED;
-use rsx_graph_calls::{Regions, admit, cancel, joins, notes, owed, request, subscribe};
+use rsx_graph_calls::{Regions, admit, cancel, joins, notes, owed, places, request, subscribe};
 use rsx_graph_moves::{IdleSet, make, pump};
 use rsx_graph_state::{Answer, Feed, Pumped, Refusal};
 pub use rsx_graph_state::{MOST_HUBS, MOST_SUBSCRIPTIONS};
@@ -331,6 +332,15 @@ impl<O: Ops> Graph<O> {
             &self.feed_joins,
             tree,
         )
+    }
+
+    /// For how many more subscriptions there is place, where each reads a hub by one leaf at most: as many as there may be beside those
+    /// that are there ([`MOST_SUBSCRIPTIONS`]), and each hub still admits, but at most 64. So many places a live run has for
+    /// subscriptions that come while it goes on. It takes no memory.
+    pub fn places(&self) -> u64
+        ensures { result ≡ places_of self.now.hubs.items (length self.now.subscriptions.items) }
+    {
+        places(&self.hubs, self.subscriptions.len())
     }
 
     /// The region of a subscription: the number of the worker that serves the root of its expression, and so delivers its signals. A

@@ -26,15 +26,17 @@
 //!
 //! The looks at hubs, feeds and subscriptions that stand in rows and are named by their numbers.
 //!
+//! - [`free_places`]: [`places`], for how many more subscriptions there is place.
 //! - [`still_owed`]: [`owed`], what is still owed to a subscriber.
 //! - [`to_come`]: what is still to come of each hub.
 //! - [`trees`]: [`notes`] and [`joins`] of a tree, of a subscription or of a hub's feed.
 //!
-//! The definitions stand in `specs/`: `Looks` (what a look answers, and why it is refused) and `ToCome` (what is still to come of
-//! the hubs).
+//! The definitions stand in `specs/`: `Looks` (what a look answers, and why it is refused), `Places` (the places that are left) and
+//! `ToCome` (what is still to come of the hubs).
 
 pub mod feed_hubs;
 mod feeds;
+pub mod free_places;
 pub mod hubs;
 pub mod publishing;
 pub mod regions;
@@ -46,6 +48,7 @@ mod to_come;
 pub mod trees;
 
 pub use feed_hubs::{admit_fed, feed_hub};
+pub use free_places::places;
 pub use hubs::hub;
 pub use publishing::{NotEmitted, complete, emit, emit_copy, fail};
 pub use regions::Regions;

@@ -2,6 +2,7 @@
 
 ghost use Rattle.std.specs.Prelude.{◌≡◌, length, map, OnOk};
 ghost use Rattle.rsx_graph_state.specs.Answers.{changed};
+ghost use Rattle.rsx_graph.specs.Places.{places};
 ghost use Rattle.rsx_session.specs.Kept.{known, taken};
 
 use crate::published::HubSource;
@@ -56,6 +57,13 @@ impl Session {
         ensures { result ≡ length self.now.records.items }
     {
         self.records.len()
+    }
+
+    /// For how many more subscriptions there is place, as [`Graph::places`] says.
+    pub fn places(&self) -> u64
+        ensures { result ≡ places self.now.graph.hubs.items (length self.now.graph.subscriptions.items) }
+    {
+        self.graph.places()
     }
 }
 
