@@ -23,7 +23,7 @@ use anyhow::{Result, bail};
 use rsx_demo::{Demo, Val, copy_val};
 use rsx_graph::{Deliveries, Graph, Pumped};
 use rsx_model::scratch;
-use rsx_serialized::{Closed, GraphRegion, StartedGraph};
+use rsx_serialized::{Closed, GraphRegion, NotAdded, NotSubscribed, StartedGraph};
 use rsx_types::{Cause, HubId, Signal, StreamValue, SubId, Tree};
 use std::alloc::Global;
 
@@ -153,10 +153,11 @@ fn turned(
     Ok(started)
 }
 
-/// Subscribes to the expression with this number, if there is one.
+/// Subscribes to the expression with this number, if there is one. If there is none, all places were given out, and one expression more is
+/// refused for want of a place.
 ///
 /// # Errors
-/// Where the graph refuses it.
+/// Where the graph refuses the expression, or takes one more.
 fn subscribe(
     alloc: Global,
     started: &mut StartedGraph<Demo>,
@@ -166,12 +167,15 @@ fn subscribe(
     requires { IsStarted started.old }
     ensures { IsStarted started.new }
 {
-    let Some(expr) = plan.exprs.get(number as usize) else {
+    let is_there = (number as usize) < plan.exprs.len();
+    let at = if is_there { number } else { 0 };
+    let Some(expr) = plan.exprs.get(at as usize) else {
         return Ok(());
     };
     match started.subscribe(alloc, expr) {
-        Ok(_) => Ok(()),
-        Err(_) => bail!("expression {number} was not subscribed to"),
+        Ok(_) if is_there => Ok(()),
+        Err(NotAdded::NotSubscribed(NotSubscribed::NoPlace)) if !is_there => Ok(()),
+        _ => bail!("expression {number} was taken and should not be, or was not"),
     }
 }
 
