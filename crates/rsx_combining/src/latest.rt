@@ -248,6 +248,8 @@ impl<T: Drop> Machine for CombineLatestNode<T> {
 
     ghost recorded = { latest_recorded };
 
+    ghost popping = { λ n. None };
+
     ghost ended = { latest_ended };
 
     ghost done = { latest_done };
@@ -280,6 +282,10 @@ impl<T: Drop> Machine for CombineLatestNode<T> {
         ops: &O,
     ) -> Result<Option<Signal<T>>, NoMemory> {
         Ok(self.output.pop())
+    }
+
+    fn records_pop(&self) -> bool {
+        false
     }
 
     fn put_back(&mut self, signal: Signal<T>)

@@ -171,6 +171,8 @@ impl<T: Drop> Machine for ZipNode<T> {
 
     ghost recorded = { zip_recorded };
 
+    ghost popping = { λ n. None };
+
     ghost ended = { zip_ended };
 
     ghost done = { zip_done };
@@ -203,6 +205,10 @@ impl<T: Drop> Machine for ZipNode<T> {
         ops: &O,
     ) -> Result<Option<Signal<T>>, NoMemory> {
         Ok(self.output.pop())
+    }
+
+    fn records_pop(&self) -> bool {
+        false
     }
 
     fn put_back(&mut self, signal: Signal<T>)

@@ -23,7 +23,7 @@ left_open tail.Taken xs v o w e = cc
 -- nothing can be picked, and where more is wanted of the input than it gave, nothing comes in there
 pub eager_rests : {T : Type 0} (m : Meaning T) (n : PublishOnEagerNode T) (taken : List ℕ) (asked sent : ℕ) (inc : Incoming T) → IsEagerCounted n taken sent → eager_waiting m n ≡ None → sent < asked → AreWithin taken →
     ((i : ℕ) → i < 2 ^ 64 → eager_picks n i asked sent ≡ false) → ((c : ℕ) → slice_get taken 0 ≡ Some c → eager_done n 0 ≡ false → ((f : Front) → eager_takes n 0 f ≡ true) → c < eager_wanted n 0 asked sent → inc.first ≡ ended_by Open) → eager_comes_out m n inc (Picks []) ≡ Some (ended_by Open)
-eager_rests {T} m n taken asked sent inc counted waits more within picks none = by_choice (choices_of m n taken asked sent counted waits more within)
+eager_rests {T} m n taken asked sent inc counted waits more within picks none = by_choice (choices_of m n taken sent counted waits within)
   where
     nothing : n.held.input.tail ≡ tail.Open → publish_waiting m n.held ≡ None → inc.first ≡ ended_by Open
     nothing o w =
@@ -31,6 +31,6 @@ eager_rests {T} m n taken asked sent inc counted waits more within picks none = 
         let here : k.i ≡ 0 = one_input n k.i Item (k.takes_any Item) in
         none k.c (ap (slice_get taken) (sym here) ∙ k.at) k.open_still (λ f. subst (λ i. eager_takes n i f ≡ true) here (k.takes_any f)) (subst (λ i. k.c < eager_wanted n i asked sent) here k.wants)
 
-    by_choice : CanChoose n.chosen n.held.input.tail n.held.input.queue.items n.choices asked sent ⊎ ((n.held.input.tail ≡ tail.Open) × (publish_waiting m n.held ≡ None)) → eager_comes_out m n inc (Picks []) ≡ Some (ended_by Open)
+    by_choice : CanChoose n.chosen n.held.input.tail n.held.input.queue.items n.choices ⊎ ((n.held.input.tail ≡ tail.Open) × (publish_waiting m n.held ≡ None)) → eager_comes_out m n inc (Picks []) ≡ Some (ended_by Open)
     by_choice (inl p) = absurd (both_ways (eager_picks n p.i asked sent) (picks p.i p.low) p.picks)
     by_choice (inr w) = nothing_chosen n.chosen (all_left n inc) ∙ ap Some (left_open n.held.input.tail n.held.input.queue.items inc.first w.0 w.1 (nothing w.0 w.1))

@@ -1,5 +1,6 @@
 -- Lemmas about nodes that delay failures, and about one whose failure overtakes items.
 pub mod Choices
+pub mod EagerItems
 pub mod EagerMoves
 pub mod EagerRests
 pub mod EagerValues
@@ -9,6 +10,7 @@ pub mod FlatPicked
 pub mod FlatRests
 pub mod FlatTaken
 pub mod Fresh
+pub mod LastChoice
 pub mod OneRun
 pub mod Picked
 pub mod Rests

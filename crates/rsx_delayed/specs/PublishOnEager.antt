@@ -1,6 +1,6 @@
 -- The identity over a queue whose failure may overtake items, as a node: what stands in its queue, what is chosen and did not go out
 -- yet, and the choices made.
-use Rattle.std.specs.Prelude.{◌≡◌, ℕ, zero, suc, ◌+◌, ◌≤◌, ◌==◌, Bool, true, false, ◌&&◌, nat_lt, List, [], ◌∷◌, length, Option, Some, None, option_map}
+use Rattle.std.specs.Prelude.{◌≡◌, ℕ, zero, suc, ◌+◌, ◌≤◌, ◌==◌, Bool, true, false, ◌&&◌, if◌then◌else◌, List, [], ◌∷◌, length, Option, Some, None, option_map}
 use Rattle.rsx_sources.specs.Prelude.{Note, Picks, Ending, Signal, Next, Complete, Error, Meaning, Stream, ended_by, item_then, Incoming, front_of}
 use Rattle.rsx_sources.specs.declared.machine.Front.{Front}
 use Rattle.rsx_sources.specs.declared.machine.Front.TheVariants as front
@@ -8,9 +8,10 @@ use Rattle.rsx_queued.specs.declared.tail.Tail.{Tail}
 use Rattle.rsx_queued.specs.declared.tail.Tail.TheVariants as tail
 use Rattle.rsx_queued.specs.Prelude.{is_gone, next_signal, picked, still}
 use Rattle.rsx_values.specs.Record.{written}
+use Rattle.rsx_values.specs.declared.record.Run.{Run}
 use Rattle.rsx_merging.specs.PublishOn.{or_done, publish_ended, publish_popped, publish_queued, publish_takes, publish_wanted}
 use Rattle.rsx_values.specs.Eager.{eager, eager_of}
-use Rattle.rsx_delayed.specs.TwoRuns.{fits, repeated}
+use Rattle.rsx_delayed.specs.TwoRuns.{fits, repeated, without_choice}
 use Rattle.rsx_delayed.specs.declared.publish_on_eager_node.Chosen.{Chosen}
 use Rattle.rsx_delayed.specs.declared.publish_on_eager_node.Chosen.TheVariants as chosen
 use Rattle.rsx_delayed.specs.declared.publish_on_eager_node.PublishOnEagerNode.{PublishOnEagerNode}
@@ -54,24 +55,46 @@ eager_comes_out m n inc further = out_of n.chosen further (all_left n inc)
 
 -- ---- what is offered
 
-abbrev pub ending_only : {T : Type 0} → Option (Signal T) → Option (Signal T)
-ending_only None = None
-ending_only (Some (Next x)) = None
-ending_only (Some Complete) = Some Complete
-ending_only (Some (Error c)) = Some (Error c)
+-- whether an item goes out that this stands behind
+abbrev pub goes_out : Tail → Bool
+goes_out tail.Open = true
+goes_out tail.Completion = true
+goes_out (tail.Failure c) = false
+goes_out tail.Taken = false
 
--- of the oldest signal: an item waits for its choice, and an ending that no item stands before goes out without one
-abbrev pub offered : {T : Type 0} → Chosen → Option (Signal T) → Option (Signal T)
-offered chosen.Nothing s = ending_only s
-offered chosen.Item s = s
-offered chosen.Failure s = s
-offered chosen.Over s = None
+-- of the oldest signal: an item where no failure stands behind it and its choice fits behind those made, and an ending that no item
+-- stands before
+abbrev pub offered : {T : Type 0} → Chosen → List Run → Tail → Option (Signal T) → Option (Signal T)
+offered chosen.Nothing r t None = None
+offered chosen.Nothing r t (Some (Next x)) = if goes_out t && fits r 0 then Some (Next x) else None
+offered chosen.Nothing r t (Some Complete) = Some Complete
+offered chosen.Nothing r t (Some (Error c)) = Some (Error c)
+offered chosen.Item r t s = None
+offered chosen.Failure r t s = s
+offered chosen.Over r t s = None
 
 abbrev pub eager_waiting : {T : Type 0} → Meaning T → PublishOnEagerNode T → Option (Signal T)
-eager_waiting m n = offered n.chosen (next_signal n.held.input)
+eager_waiting m n = offered n.chosen n.choices n.held.input.tail (next_signal n.held.input)
 
 abbrev pub eager_shown : {T : Type 0} → PublishOnEagerNode T → Option Front
-eager_shown n = option_map front_of (offered n.chosen (next_signal n.held.input))
+eager_shown n = option_map front_of (offered n.chosen n.choices n.held.input.tail (next_signal n.held.input))
+
+-- what an item adds to the record as it goes out
+abbrev pub item_note : {T : Type 0} → Option (Signal T) → Option Note
+item_note None = None
+item_note (Some (Next x)) = Some (Picks (0 ∷ []))
+item_note (Some Complete) = None
+item_note (Some (Error c)) = None
+
+abbrev pub note_of : {T : Type 0} → Chosen → Option (Signal T) → Option Note
+note_of chosen.Nothing s = item_note s
+note_of chosen.Item s = None
+note_of chosen.Failure s = None
+note_of chosen.Over s = None
+
+-- what the offered signal adds to the record as it goes out
+abbrev pub eager_popping : {T : Type 0} → PublishOnEagerNode T → Option Note
+eager_popping n = note_of n.chosen (offered n.chosen n.choices n.held.input.tail (next_signal n.held.input))
 
 -- ---- choices
 
@@ -82,16 +105,16 @@ is_free chosen.Item = false
 is_free chosen.Failure = false
 is_free chosen.Over = false
 
--- the next item where it was asked for and no failure stands behind the items, and else the failure, as long as items stand before it
-abbrev pub may_choose : {T : Type 0} → List T → Tail → ℕ → ℕ → ℕ → Bool
-may_choose [] t i asked sent = false
-may_choose (x ∷ xs) tail.Open i asked sent = (i == 0) && nat_lt sent asked
-may_choose (x ∷ xs) tail.Completion i asked sent = (i == 0) && nat_lt sent asked
-may_choose (x ∷ xs) (tail.Failure c) i asked sent = i == 1
-may_choose (x ∷ xs) tail.Taken i asked sent = false
+-- the failure, as long as items stand before it
+abbrev pub may_choose : {T : Type 0} → List T → Tail → ℕ → Bool
+may_choose [] t i = false
+may_choose (x ∷ xs) tail.Open i = false
+may_choose (x ∷ xs) tail.Completion i = false
+may_choose (x ∷ xs) (tail.Failure c) i = i == 1
+may_choose (x ∷ xs) tail.Taken i = false
 
 abbrev pub eager_picks : {T : Type 0} → PublishOnEagerNode T → ℕ → ℕ → ℕ → Bool
-eager_picks n i asked sent = is_free n.chosen && (may_choose n.held.input.queue.items n.held.input.tail i asked sent && fits n.choices i)
+eager_picks n i asked sent = is_free n.chosen && (may_choose n.held.input.queue.items n.held.input.tail i && fits n.choices i)
 
 abbrev pub eager_recording : {T : Type 0} → PublishOnEagerNode T → ℕ → Note
 eager_recording n i = Picks (i ∷ [])
@@ -121,25 +144,18 @@ eager_ended n = is_last n.chosen && publish_ended n.held
 
 abbrev pub goes_on : Chosen → Bool
 goes_on chosen.Nothing = true
-goes_on chosen.Item = true
+goes_on chosen.Item = false
 goes_on chosen.Failure = false
 goes_on chosen.Over = false
 
--- how many items were chosen, where so many were sent
-abbrev pub items_chosen : Chosen → ℕ → ℕ
-items_chosen chosen.Nothing sent = sent
-items_chosen chosen.Item sent = sent + 1
-items_chosen chosen.Failure sent = sent
-items_chosen chosen.Over sent = sent
-
--- No failure was chosen or went out, and no completion did. What was taken in was sent or stands in the queue, and an item that is
--- chosen stands there still. Each that was chosen was recorded.
+-- No failure was chosen or went out, and no completion did. What was taken in was sent or stands in the queue, and each item that was
+-- sent was recorded.
 pub record IsEagerCounted {T : Type 0} (n : PublishOnEagerNode T) (taken : List ℕ) (sent : ℕ) : Type 0 where
   pub goes_on : goes_on n.chosen ≡ true
   pub unended : is_gone n.held.input ≡ false
   pub some_room : 1 ≤ n.held.input.queue.capacity
   pub counts : taken ≡ (sent + length n.held.input.queue.items) ∷ []
-  pub recorded : n.choices ≡ repeated 0 (items_chosen n.chosen sent)
+  pub recorded : n.choices ≡ repeated 0 sent
 
 -- the credits of the queue, by the items that were sent
 abbrev pub eager_wanted : {T : Type 0} → PublishOnEagerNode T → ℕ → ℕ → ℕ → ℕ
@@ -164,15 +180,22 @@ chosen_after chosen.Over f = chosen.Over
 
 -- what was chosen before this signal went out
 abbrev pub chosen_before : {T : Type 0} → Signal T → Chosen → Chosen
-chosen_before (Next x) chosen.Nothing = chosen.Item
-chosen_before (Next x) chosen.Item = chosen.Item
-chosen_before (Next x) chosen.Failure = chosen.Failure
-chosen_before (Next x) chosen.Over = chosen.Over
+chosen_before (Next x) c = c
 chosen_before Complete c = c
 chosen_before (Error k) chosen.Nothing = chosen.Nothing
 chosen_before (Error k) chosen.Item = chosen.Item
 chosen_before (Error k) chosen.Failure = chosen.Failure
 chosen_before (Error k) chosen.Over = chosen.Nothing
 
+-- the choices made before it: an item was recorded as it went out, as long as no failure was chosen
+abbrev pub choices_before : {T : Type 0} → Signal T → Chosen → List Run → List Run
+choices_before (Next x) chosen.Nothing r = without_choice r
+choices_before (Next x) chosen.Item r = r
+choices_before (Next x) chosen.Failure r = r
+choices_before (Next x) chosen.Over r = r
+choices_before Complete c r = r
+choices_before (Error k) c r = r
+
 abbrev pub eager_popped : {T : Type 0} → PublishOnEagerNode T → Signal T → PublishOnEagerNode T → Type 0
-eager_popped old s new = publish_popped old.held s new.held × (old.chosen ≡ chosen_before s new.chosen) × (old.choices ≡ new.choices)
+eager_popped old s new =
+    publish_popped old.held s new.held × (old.chosen ≡ chosen_before s new.chosen) × (old.choices ≡ choices_before s new.chosen new.choices)

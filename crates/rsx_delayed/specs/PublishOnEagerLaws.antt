@@ -1,7 +1,7 @@
 -- The laws of the identity whose failure may overtake items.
-use Rattle.std.specs.Prelude.{◌≡◌, ◌⊎◌, ℕ, zero, suc, ◌+◌, ◌-◌, ◌<◌, ◌^◌, true, false, ◌&&◌, List, [], ◌∷◌, ◌++◌, length, Option, Some, None, refl}
-use Rattle.std.proofs.Common.{inl, inr, ap, subst, arith}
-use Rattle.std.proofs.lemmas.Bool.{and_from, and_parts, lt-ltb}
+use Rattle.std.specs.Prelude.{◌≡◌, ◌⊎◌, ℕ, zero, suc, ◌+◌, ◌-◌, ◌<◌, ◌^◌, Bool, true, false, ◌&&◌, if◌then◌else◌, List, [], ◌∷◌, ◌++◌, length, Option, Some, None, refl}
+use Rattle.std.proofs.Common.{inl, inr, ap, ◌∙◌, subst, arith}
+use Rattle.std.proofs.lemmas.Bool.{and_parts, lt-ltb}
 use Rattle.rsx_demand.specs.declared.TheConstants.{UNBOUNDED}
 use Rattle.rsx_sources.specs.Prelude.{Note, Nothing, Signal, Next, Complete, Error, Meaning, unchosen, Stream, AreWithin, CanStep, IsHungry, ends_input, Incoming, incoming_of}
 use Rattle.rsx_sources.specs.Counts.{IsHungryAt}
@@ -13,7 +13,7 @@ use Rattle.rsx_values.specs.declared.record.Run.{Run}
 use Rattle.rsx_merging.specs.PublishOnLaws.{publish_drops, publish_ends, publish_hungry}
 use Rattle.rsx_merging.specs.PublishOn.{publish_counted, publish_ended, publish_takes, publish_waiting, publish_wanted}
 use Rattle.rsx_delayed.specs.TwoRuns.{fits, repeated}
-use Rattle.rsx_delayed.specs.PublishOnEager.{all_left, chosen_then, goes_on, is_free, is_last, items_chosen, may_choose, offered, out_of, eager_comes_out, eager_done, eager_ended, eager_picks, eager_recorded, eager_takes, eager_waiting, eager_wanted, IsEagerCounted}
+use Rattle.rsx_delayed.specs.PublishOnEager.{all_left, chosen_then, goes_on, goes_out, is_free, is_last, may_choose, offered, out_of, eager_comes_out, eager_done, eager_ended, eager_picks, eager_recorded, eager_takes, eager_waiting, eager_wanted, IsEagerCounted}
 use Rattle.rsx_delayed.specs.declared.publish_on_eager_node.Chosen.{Chosen}
 use Rattle.rsx_delayed.specs.declared.publish_on_eager_node.Chosen.TheVariants as chosen
 use Rattle.rsx_delayed.specs.declared.publish_on_eager_node.PublishOnEagerNode.{PublishOnEagerNode}
@@ -34,18 +34,22 @@ pub eager_done_drops : {T : Type 0} (m : Meaning T) (n : PublishOnEagerNode T) (
 eager_done_drops m n hubs before after v w further d = ap (out_of n.chosen further) (left_same m n (incoming_of hubs (before ++ v ∷ after)) (incoming_of hubs (before ++ w ∷ after)) d)
 
 -- a signal that is offered is the oldest
-oldest : {T : Type 0} (c : Chosen) (o : Option (Signal T)) (s : Signal T) → offered c o ≡ Some s → o ≡ Some s
-oldest chosen.Nothing None s w = cc
-oldest chosen.Nothing (Some (Next x)) s w = cc
-oldest chosen.Nothing (Some Complete) s w = w
-oldest chosen.Nothing (Some (Error k)) s w = w
-oldest chosen.Item o s w = w
-oldest chosen.Failure o s w = w
-oldest chosen.Over o s w = cc
+if_let : {T : Type 0} (b : Bool) (x : T) (s : Signal T) → (if b then Some (Next x) else None) ≡ Some s → Some (Next x) ≡ Some s
+if_let true x s w = w
+if_let false x s w = cc
+
+oldest : {T : Type 0} (c : Chosen) (r : List Run) (t : Tail) (o : Option (Signal T)) (s : Signal T) → offered c r t o ≡ Some s → o ≡ Some s
+oldest chosen.Nothing r t None s w = cc
+oldest chosen.Nothing r t (Some (Next x)) s w = if_let (goes_out t && fits r 0) x s w
+oldest chosen.Nothing r t (Some Complete) s w = w
+oldest chosen.Nothing r t (Some (Error k)) s w = w
+oldest chosen.Item r t o s w = cc
+oldest chosen.Failure r t o s w = w
+oldest chosen.Over r t o s w = cc
 
 pub eager_ends : {T : Type 0} (m : Meaning T) (n : PublishOnEagerNode T) (s : Signal T) (inc other : Incoming T) (further : Note) → eager_waiting m n ≡ Some s → ends_input s ≡ true → eager_comes_out m n inc further ≡ eager_comes_out m n other further
 eager_ends m n s inc other further w e =
-    ap (out_of n.chosen further) (one_value (all_left n inc) (all_left n other) (publish_ends m n.held s inc other Nothing (oldest n.chosen (next_signal n.held.input) s w) e))
+    ap (out_of n.chosen further) (one_value (all_left n inc) (all_left n other) (publish_ends m n.held s inc other Nothing (oldest n.chosen n.choices n.held.input.tail (next_signal n.held.input) s w) e))
 
 -- ---- where nothing more is chosen, all that is left comes out
 
@@ -65,19 +69,19 @@ eager_settles m n inc = (all_left n inc, nothing_chosen n.chosen (all_left n inc
 -- ---- it isn't stuck
 
 -- a failure that was chosen is offered
-failure_there : {T : Type 0} (c : Chosen) (t : Tail) (xs : List T) → is_last c && ended_in t false ≡ true → offered c (unless_taken t (first_held xs t)) ≡ None → ⊥
-failure_there chosen.Nothing t xs e none = cc
-failure_there chosen.Item t xs e none = cc
-failure_there chosen.Failure tail.Open xs e none = cc
-failure_there chosen.Failure tail.Completion [] e none = cc
-failure_there chosen.Failure tail.Completion (x ∷ xs) e none = cc
-failure_there chosen.Failure (tail.Failure k) [] e none = cc
-failure_there chosen.Failure (tail.Failure k) (x ∷ xs) e none = cc
-failure_there chosen.Failure tail.Taken xs e none = cc
-failure_there chosen.Over t xs e none = cc
+failure_there : {T : Type 0} (c : Chosen) (r : List Run) (t : Tail) (xs : List T) → is_last c && ended_in t false ≡ true → offered c r t (unless_taken t (first_held xs t)) ≡ None → ⊥
+failure_there chosen.Nothing r t xs e none = cc
+failure_there chosen.Item r t xs e none = cc
+failure_there chosen.Failure r tail.Open xs e none = cc
+failure_there chosen.Failure r tail.Completion [] e none = cc
+failure_there chosen.Failure r tail.Completion (x ∷ xs) e none = cc
+failure_there chosen.Failure r (tail.Failure k) [] e none = cc
+failure_there chosen.Failure r (tail.Failure k) (x ∷ xs) e none = cc
+failure_there chosen.Failure r tail.Taken xs e none = cc
+failure_there chosen.Over r t xs e none = cc
 
 pub eager_ending_waits : {T : Type 0} (m : Meaning T) (n : PublishOnEagerNode T) (asked sent : ℕ) → eager_ended n ≡ true → eager_waiting m n ≡ None → sent < asked → CanStep eager_picks (λ k a s. false) n asked sent
-eager_ending_waits m n asked sent e none more = absurd (failure_there n.chosen n.held.input.tail n.held.input.queue.items e none)
+eager_ending_waits m n asked sent e none more = absurd (failure_there n.chosen n.choices n.held.input.tail n.held.input.queue.items e none)
 
 -- there is room for one more choice of an item, and for that of the failure
 item_fits : (k : ℕ) → k < 2 ^ 64 - 1 → fits (repeated 0 k) 0 ≡ true
@@ -88,39 +92,42 @@ failure_fits : (k : ℕ) → fits (repeated 0 k) 1 ≡ true
 failure_fits zero = refl
 failure_fits (suc k) = refl
 
+-- an item that fits is offered
+item_there : {T : Type 0} (b : Bool) (x : T) → b ≡ true → (if b then Some (Next x) else None) ≡ None → ⊥
+item_there true x e none = cc
+item_there false x e none = cc
+
+fits_behind : (r : List Run) (sent : ℕ) → r ≡ repeated 0 sent → sent < 2 ^ 64 - 1 → fits r 0 ≡ true
+fits_behind r sent is few = ap (λ l. fits l 0) is ∙ item_fits sent few
+
 -- the choice that can be made where nothing is offered
-pub record CanChoose {T : Type 0} (c : Chosen) (t : Tail) (xs : List T) (r : List Run) (asked sent : ℕ) : Type 0 where
+pub record CanChoose {T : Type 0} (c : Chosen) (t : Tail) (xs : List T) (r : List Run) : Type 0 where
   pub i : ℕ
   pub low : i < 2 ^ 64
-  pub picks : is_free c && (may_choose xs t i asked sent && fits r i) ≡ true
+  pub picks : is_free c && (may_choose xs t i && fits r i) ≡ true
 
 -- else nothing is in the queue, and no ending came
-choice_or_none : {T : Type 0} (c : Chosen) (t : Tail) (xs : List T) (r : List Run) (asked sent : ℕ) → goes_on c ≡ true → is_taken t ≡ false → r ≡ repeated 0 (items_chosen c sent) → sent < 2 ^ 64 - 1 → offered c (unless_taken t (first_held xs t)) ≡ None → sent < asked →
-    CanChoose c t xs r asked sent ⊎ ((t ≡ tail.Open) × (unless_taken t (first_held xs t) ≡ None))
-choice_or_none chosen.Nothing tail.Open [] r asked sent on still is few none more = inr (refl, refl)
-choice_or_none chosen.Nothing tail.Open (x ∷ xs) r asked sent on still is few none more = inl (record { i = 0; low = omega arith; picks = rw is (and_from _ _ (lt-ltb sent asked more) (item_fits sent few)) })
-choice_or_none chosen.Nothing tail.Completion [] r asked sent on still is few none more = cc
-choice_or_none chosen.Nothing tail.Completion (x ∷ xs) r asked sent on still is few none more = inl (record { i = 0; low = omega arith; picks = rw is (and_from _ _ (lt-ltb sent asked more) (item_fits sent few)) })
-choice_or_none chosen.Nothing (tail.Failure k) [] r asked sent on still is few none more = cc
-choice_or_none chosen.Nothing (tail.Failure k) (x ∷ xs) r asked sent on still is few none more = inl (record { i = 1; low = omega arith; picks = rw is (failure_fits sent) })
-choice_or_none chosen.Nothing tail.Taken xs r asked sent on still is few none more = cc
-choice_or_none chosen.Item tail.Open xs r asked sent on still is few none more = inr (refl, none)
-choice_or_none chosen.Item tail.Completion [] r asked sent on still is few none more = cc
-choice_or_none chosen.Item tail.Completion (x ∷ xs) r asked sent on still is few none more = cc
-choice_or_none chosen.Item (tail.Failure k) [] r asked sent on still is few none more = cc
-choice_or_none chosen.Item (tail.Failure k) (x ∷ xs) r asked sent on still is few none more = cc
-choice_or_none chosen.Item tail.Taken xs r asked sent on still is few none more = cc
-choice_or_none chosen.Failure t xs r asked sent on still is few none more = cc
-choice_or_none chosen.Over t xs r asked sent on still is few none more = cc
+choice_or_none : {T : Type 0} (c : Chosen) (t : Tail) (xs : List T) (r : List Run) (sent : ℕ) → goes_on c ≡ true → is_taken t ≡ false → r ≡ repeated 0 sent → sent < 2 ^ 64 - 1 → offered c r t (unless_taken t (first_held xs t)) ≡ None →
+    CanChoose c t xs r ⊎ ((t ≡ tail.Open) × (unless_taken t (first_held xs t) ≡ None))
+choice_or_none chosen.Nothing tail.Open [] r sent on still is few none = inr (refl, refl)
+choice_or_none chosen.Nothing tail.Open (x ∷ xs) r sent on still is few none = absurd (item_there (fits r 0) x (fits_behind r sent is few) none)
+choice_or_none chosen.Nothing tail.Completion [] r sent on still is few none = cc
+choice_or_none chosen.Nothing tail.Completion (x ∷ xs) r sent on still is few none = absurd (item_there (fits r 0) x (fits_behind r sent is few) none)
+choice_or_none chosen.Nothing (tail.Failure k) [] r sent on still is few none = cc
+choice_or_none chosen.Nothing (tail.Failure k) (x ∷ xs) r sent on still is few none = inl (record { i = 1; low = omega arith; picks = rw is (failure_fits sent) })
+choice_or_none chosen.Nothing tail.Taken xs r sent on still is few none = cc
+choice_or_none chosen.Item t xs r sent on still is few none = cc
+choice_or_none chosen.Failure t xs r sent on still is few none = cc
+choice_or_none chosen.Over t xs r sent on still is few none = cc
 
 few_sent : (sent k : ℕ) → AreWithin ((sent + k) ∷ []) → sent < 2 ^ 64 - 1
 few_sent sent k within = let lt : sent + k < UNBOUNDED = within.0 in omega (arith, lt)
 
 -- a choice can be made, or it wants more of its input
-pub choices_of : {T : Type 0} (m : Meaning T) (n : PublishOnEagerNode T) (taken : List ℕ) (asked sent : ℕ) → IsEagerCounted n taken sent → eager_waiting m n ≡ None → sent < asked → AreWithin taken →
-    CanChoose n.chosen n.held.input.tail n.held.input.queue.items n.choices asked sent ⊎ ((n.held.input.tail ≡ tail.Open) × (publish_waiting m n.held ≡ None))
-choices_of m n taken asked sent counted none more within =
-    choice_or_none n.chosen n.held.input.tail n.held.input.queue.items n.choices asked sent counted.goes_on counted.unended counted.recorded (few_sent sent (length n.held.input.queue.items) (subst AreWithin counted.counts within)) none more
+pub choices_of : {T : Type 0} (m : Meaning T) (n : PublishOnEagerNode T) (taken : List ℕ) (sent : ℕ) → IsEagerCounted n taken sent → eager_waiting m n ≡ None → AreWithin taken →
+    CanChoose n.chosen n.held.input.tail n.held.input.queue.items n.choices ⊎ ((n.held.input.tail ≡ tail.Open) × (publish_waiting m n.held ≡ None))
+choices_of m n taken sent counted none within =
+    choice_or_none n.chosen n.held.input.tail n.held.input.queue.items n.choices sent counted.goes_on counted.unended counted.recorded (few_sent sent (length n.held.input.queue.items) (subst AreWithin counted.counts within)) none
 
 pub waits_for_more : {T : Type 0} (m : Meaning T) (n : PublishOnEagerNode T) (taken : List ℕ) (asked sent : ℕ) → IsEagerCounted n taken sent → n.held.input.tail ≡ tail.Open → publish_waiting m n.held ≡ None → sent < asked → AreWithin taken →
     IsHungryAt eager_takes eager_done eager_wanted n taken asked sent
@@ -132,8 +139,8 @@ waits_for_more m n taken asked sent counted open_still none more within =
 
 pub eager_hungry : {T : Type 0} (m : Meaning T) (n : PublishOnEagerNode T) (taken : List ℕ) (asked sent : ℕ) → eager_ended n ≡ false → IsEagerCounted n taken sent → eager_waiting m n ≡ None → sent < asked → AreWithin taken →
     IsHungry eager_takes eager_picks (λ k a s. false) eager_done eager_wanted (λ k. None) n taken asked sent
-eager_hungry {T} m n taken asked sent going counted none more within = by_choice (choices_of m n taken asked sent counted none more within)
+eager_hungry {T} m n taken asked sent going counted none more within = by_choice (choices_of m n taken sent counted none within)
   where
-    by_choice : CanChoose n.chosen n.held.input.tail n.held.input.queue.items n.choices asked sent ⊎ ((n.held.input.tail ≡ tail.Open) × (publish_waiting m n.held ≡ None)) → IsHungry eager_takes eager_picks (λ k a s. false) eager_done eager_wanted (λ k. None) n taken asked sent
+    by_choice : CanChoose n.chosen n.held.input.tail n.held.input.queue.items n.choices ⊎ ((n.held.input.tail ≡ tail.Open) × (publish_waiting m n.held ≡ None)) → IsHungry eager_takes eager_picks (λ k a s. false) eager_done eager_wanted (λ k. None) n taken asked sent
     by_choice (inl p) = inl (p.i, p.low, p.picks)
     by_choice (inr w) = inr (inr (inl (waits_for_more m n taken asked sent counted w.0 w.1 more within)))

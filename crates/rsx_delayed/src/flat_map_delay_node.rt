@@ -169,6 +169,8 @@ impl<T: Drop> Machine for FlatMapDelayNode<T> {
 
     ghost recorded = { flat_delay_recorded };
 
+    ghost popping = { λ n. None };
+
     ghost ended = { flat_delay_ended };
 
     ghost done = { flat_delay_done };
@@ -208,6 +210,10 @@ impl<T: Drop> Machine for FlatMapDelayNode<T> {
         ensures memory { IsOk result }
     {
         Ok(self.flat.output.pop())
+    }
+
+    fn records_pop(&self) -> bool {
+        false
     }
 
     fn put_back(&mut self, signal: Signal<T>)

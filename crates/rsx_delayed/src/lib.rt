@@ -26,10 +26,11 @@
 //!
 //! It is `publishOn` but for a failure, which overtakes the items that wait before it.
 //!
-//! [`PublishOnEagerNode`] holds what the node `publishOn` holds. It offers an item once that was picked, and records each pick: 0 for
-//! an item, and 1 for the failure, which drops the items before it. So under what it recorded what comes out is `eager_of` of what
-//! comes in; `eager_law` says what that comes to. The record has memory for its two runs from the start ([`TwoRuns`]), so no pick takes
-//! any. `specs/PublishOnEager` describes the node, and `specs/PublishOnEagerLaws` has its laws.
+//! [`PublishOnEagerNode`] holds what the node `publishOn` holds. It offers an item as long as no failure stands behind it, and records
+//! choice 0 as the item goes out. A failure that stands behind items can be picked, which is recorded as choice 1 and drops them. So
+//! under what it recorded what comes out is `eager_of` of what comes in; `eager_law` says what that comes to. The record has memory for
+//! its two runs from the start ([`TwoRuns`]), so neither an item nor a pick takes any. `specs/PublishOnEager` describes the node, and
+//! `specs/PublishOnEagerLaws` has its laws.
 
 pub mod eager_law;
 mod flat;

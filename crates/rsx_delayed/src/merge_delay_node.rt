@@ -165,6 +165,8 @@ impl<T: Drop> Machine for MergeDelayNode<T> {
 
     ghost recorded = { delayed_recorded };
 
+    ghost popping = { λ n. None };
+
     ghost ended = { delayed_ended };
 
     ghost done = { delayed_done };
@@ -204,6 +206,10 @@ impl<T: Drop> Machine for MergeDelayNode<T> {
         ensures memory { IsOk result }
     {
         Ok(self.output.pop())
+    }
+
+    fn records_pop(&self) -> bool {
+        false
     }
 
     fn put_back(&mut self, signal: Signal<T>)

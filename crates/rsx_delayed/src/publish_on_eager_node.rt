@@ -1,7 +1,7 @@
 //! The identity over a queue whose failure may overtake items.
 
 ghost use Rattle.std.specs.Prelude.{◌≡◌};
-ghost use Rattle.rsx_delayed.specs.PublishOnEager.{chosen_after, chosen_before};
+ghost use Rattle.rsx_delayed.specs.PublishOnEager.{chosen_after};
 
 use crate::two_runs::TwoRuns;
 use rsx_merging::PublishOnNode;
@@ -14,9 +14,9 @@ use std::alloc::Global;
 /// What was chosen and did not go out yet.
 #[derive(Clone, Copy, Debug, PartialEq, Eq)]
 pub enum Chosen {
-    /// Nothing: an item that waits can't go out, and an ending can where no item stands before it.
+    /// Nothing: an item that waits goes out where no failure stands behind it, and an ending where no item stands before it.
     Nothing,
-    /// The next item.
+    /// The next item, which is going out. No call leaves the node so: contracts alone name it.
     Item,
     /// The failure: the items before it are gone, and nothing more can be chosen.
     Failure,
@@ -27,15 +27,15 @@ pub enum Chosen {
 /// The signals of its one input, as they came in, but for a failure, which may overtake the items before it.
 ///
 /// They wait in a queue, as those of a `publishOn` do, and so it asks for items ahead of what is asked of it
-/// ([`PublishOnNode`]). An item goes out once it was picked, as choice 0: that can be done where it was asked for, as long as no
-/// failure came in. From then on only the failure can be picked, as choice 1, whatever is asked: it drops the items before it. So
+/// ([`PublishOnNode`]). As long as no failure came in, an item goes out as it is, and is recorded as choice 0 then. Once a failure
+/// came in behind items, none of them goes out any more: the failure can be picked, as choice 1, whatever is asked, and drops them. So
 /// what was recorded tells how many items the failure left in front of it. An ending that no item stands before goes out with
 /// nothing recorded.
 #[derive(Drop)]
 pub struct PublishOnEagerNode<T> {
-    /// What came in and did not go out yet, as a `publishOn` holds it. An item that was picked stands in front still.
+    /// What came in and did not go out yet, as a `publishOn` holds it.
     pub held: PublishOnNode<T>,
-    /// What was picked and did not go out yet.
+    /// What was chosen and did not go out yet.
     pub chosen: Chosen,
     /// The choices made.
     pub choices: TwoRuns,
@@ -52,21 +52,10 @@ impl Chosen {
             _ => self,
         }
     }
-
-    /// What was chosen before this signal went out.
-    fn before<T>(self, signal: &Signal<T>) -> Chosen
-        ensures { result ≡ chosen_before signal.now self }
-    {
-        match (self, signal) {
-            (Chosen::Nothing, Signal::Next(_)) => Chosen::Item,
-            (Chosen::Over, Signal::Error(_)) => Chosen::Nothing,
-            _ => self,
-        }
-    }
 }
 
 impl<T: Drop> PublishOnEagerNode<T> {
-    ghost use Rattle.std.specs.Prelude.{◌≡◌, ◌≤◌, [], ◌∷◌, IfOk};
+    ghost use Rattle.std.specs.Prelude.{◌≡◌, ◌≤◌, ◌&&◌, [], ◌∷◌, IfOk};
     ghost use Rattle.rsx_types.specs.Meaning.{Meaning};
     ghost use Rattle.rsx_types.specs.declared.note.Note.{Note as NoteSpec};
     ghost use Rattle.rsx_sources.specs.Machine.{Incoming};
@@ -74,7 +63,8 @@ impl<T: Drop> PublishOnEagerNode<T> {
     ghost use Rattle.rsx_queued.specs.Input.{fresh_input};
     ghost use Rattle.rsx_queued.specs.Inputs.{picked};
     ghost use Rattle.rsx_values.specs.Eager.{eager_of};
-    ghost use Rattle.rsx_delayed.specs.PublishOnEager.{eager_comes_out, eager_queued, IsEagerCounted};
+    ghost use Rattle.rsx_delayed.specs.TwoRuns.{fits};
+    ghost use Rattle.rsx_delayed.specs.PublishOnEager.{choices_before, chosen_before, goes_out, eager_comes_out, eager_queued, IsEagerCounted};
 
     /// The node at which nothing came in, over a queue of this capacity, 1 to [`LARGEST`](rsx_prefetch::LARGEST).
     ///
@@ -112,6 +102,29 @@ impl<T: Drop> PublishOnEagerNode<T> {
     {
         self.choices.runs()
     }
+
+    /// Whether items go out: no failure stands behind them, and the choice of one more can be recorded.
+    fn lets_items_go(&self) -> bool
+        ensures { result ≡ goes_out self.now.held.input.tail && fits self.now.choices 0 }
+    {
+        match self.held.input.tail {
+            Tail::Open | Tail::Completion => self.choices.fits(0),
+            Tail::Failure(_) | Tail::Taken => false,
+        }
+    }
+
+    /// Forgets what was chosen and recorded as this signal went out.
+    fn forget(&mut self, signal: &Signal<T>)
+        ensures held { self.new.held ≡ self.old.held }
+        ensures chosen { self.new.chosen ≡ chosen_before signal.now self.old.chosen }
+        ensures choices { self.new.choices ≡ choices_before signal.now self.old.chosen self.old.choices }
+    {
+        match (self.chosen, signal) {
+            (Chosen::Nothing, Signal::Next(_)) => self.choices.pop(),
+            (Chosen::Over, Signal::Error(_)) => self.chosen = Chosen::Nothing,
+            _ => {}
+        }
+    }
 }
 
 impl<T: Drop> Machine for PublishOnEagerNode<T> {
@@ -121,13 +134,13 @@ impl<T: Drop> Machine for PublishOnEagerNode<T> {
     ghost use Rattle.rsx_types.specs.Notes.{note_then};
     ghost use Rattle.rsx_sources.specs.Counts.{CountsIn, CountsOut, CountsStep};
     ghost use Rattle.rsx_sources.specs.Machine.{TakesIn, Records, IsComposed, front_of};
-    ghost use Rattle.rsx_sources.specs.Passed.{IsItemOut, IsPassed};
+    ghost use Rattle.rsx_sources.specs.Passed.{IsPassed};
+    ghost use Rattle.rsx_sources.specs.Popping.{IsItemOutBy, IsPoppedBy, IsRecordedBy};
     ghost use Rattle.rsx_sources.specs.Reading.{IsReadOn, IsResidualOf};
-    ghost use Rattle.rsx_sources.specs.Steps.{IsPopped, IsNotTaken, IsNotMade};
-    ghost use Rattle.rsx_queued.specs.Input.{next_signal};
+    ghost use Rattle.rsx_sources.specs.Steps.{IsNotTaken, IsNotMade};
     ghost use Rattle.rsx_merging.specs.PublishOn.{item_of};
     ghost use Rattle.rsx_delayed.specs.PublishOnEagerLaws.{eager_drops, eager_ends, eager_done_drops, eager_settles, eager_ending_waits, eager_hungry};
-    ghost use Rattle.rsx_delayed.specs.PublishOnEager.{eager_comes_out, eager_waiting, eager_shown, eager_takes, eager_picks, eager_recording, eager_recorded, eager_ended, eager_done, eager_wanted, eager_popped, IsEagerCounted};
+    ghost use Rattle.rsx_delayed.specs.PublishOnEager.{eager_comes_out, eager_waiting, eager_shown, eager_takes, eager_picks, eager_recording, eager_recorded, eager_popping, eager_ended, eager_done, eager_wanted, eager_popped, IsEagerCounted};
     ghost use Rattle.rsx_delayed.specs.declared.publish_on_eager_node.PublishOnEagerNode.{PublishOnEagerNode};
 
     ghost comes_out = { eager_comes_out };
@@ -147,6 +160,8 @@ impl<T: Drop> Machine for PublishOnEagerNode<T> {
     ghost recording = { eager_recording };
 
     ghost recorded = { eager_recorded };
+
+    ghost popping = { eager_popping };
 
     ghost ended = { eager_ended };
 
@@ -173,11 +188,17 @@ impl<T: Drop> Machine for PublishOnEagerNode<T> {
     fn front(&self) -> Option<Front> {
         match self.chosen {
             Chosen::Nothing => match self.held.front() {
-                Some(Front::Item) => None,
+                Some(Front::Item) => {
+                    if self.lets_items_go() {
+                        Some(Front::Item)
+                    } else {
+                        None
+                    }
+                }
                 ending => ending,
             },
-            Chosen::Item | Chosen::Failure => self.held.front(),
-            Chosen::Over => None,
+            Chosen::Failure => self.held.front(),
+            Chosen::Item | Chosen::Over => None,
         }
     }
 
@@ -187,28 +208,33 @@ impl<T: Drop> Machine for PublishOnEagerNode<T> {
         ops: &O,
     ) -> Result<Option<Signal<T>>, NoMemory>
         ensures ok { IfOk result (λ s.
-            IsPopped (eager_comes_out (O.meaning ops.now)) eager_popped (eager_waiting (O.meaning ops.now) self.old) self.old s self.new) }
-        ensures recorded { eager_recorded self.new ≡ eager_recorded self.old }
+            IsPoppedBy (eager_comes_out (O.meaning ops.now)) eager_popped eager_recorded eager_ended (eager_popping self.old)
+            (eager_waiting (O.meaning ops.now) self.old) self.old s self.new) }
+        ensures recorded { IsRecordedBy (eager_popping self.old) (eager_recorded self.old) (eager_recorded self.new) }
         ensures counts { IfOk result (λ s. CountsOut IsEagerCounted eager_ended eager_done self.old s self.new) }
         ensures err { OnErr result (self.new ≡ self.old) }
         ensures memory { IsOk result }
     {
+        if let Some(item) = self.pop_item(alloc, ops) {
+            return Ok(Some(Signal::Next(item)));
+        }
         match self.front() {
             None => Ok(None),
-            Some(front) => {
-                self.chosen = self.chosen.after(front);
-                match self.held.input.queue.lift() {
-                    Some(item) => Ok(Some(Signal::Next(item))),
-                    None => Ok(self.held.input.tail.take()),
-                }
+            Some(ending) => {
+                self.chosen = self.chosen.after(ending);
+                Ok(self.held.input.tail.take())
             }
         }
+    }
+
+    fn records_pop(&self) -> bool {
+        self.chosen == Chosen::Nothing && !self.held.input.queue.is_empty() && self.lets_items_go()
     }
 
     fn put_back(&mut self, signal: Signal<T>)
         ensures { (before : PublishOnEagerNode T) → eager_popped before signal self.old → self.new ≡ before }
     {
-        self.chosen = self.chosen.before(&signal);
+        self.forget(&signal);
         self.held.put_back(signal);
     }
 
@@ -244,22 +270,21 @@ impl<T: Drop> Machine for PublishOnEagerNode<T> {
 
     fn pop_item<O: Ops<Item = T>>(&mut self, alloc: Global, ops: &O) -> Option<T>
         ensures some { IfSome result (λ x.
-            IsItemOut (eager_comes_out (O.meaning ops.now)) (eager_waiting (O.meaning ops.now))
-            eager_popped eager_recorded IsEagerCounted eager_ended eager_done self.old x self.new) }
+            IsItemOutBy (eager_comes_out (O.meaning ops.now)) (eager_waiting (O.meaning ops.now))
+            eager_popped eager_recorded IsEagerCounted eager_ended eager_done (eager_popping self.old) self.old x self.new) }
         ensures none { IfNone result (self.new ≡ self.old) }
 
-        // Wherever an item was picked, it comes.
-        ensures offered { self.old.chosen ≡ Chosen.Item → result ≡ item_of (next_signal self.old.held.input) }
+        // Wherever an item is offered, it comes.
+        ensures offered { result ≡ item_of (eager_waiting (O.meaning ops.now) self.old) }
     {
-        if self.chosen != Chosen::Item {
-            return None;
+        if self.records_pop() {
+            let item = self.held.pop_item(alloc, ops)?;
+            self.choices.push(0);
+            return Some(item);
         }
-        match self.held.pop_item(alloc, ops) {
-            Some(item) => {
-                self.chosen = Chosen::Nothing;
-                Some(item)
-            }
-            None => None,
+        match self.chosen {
+            Chosen::Failure => self.held.pop_item(alloc, ops),
+            Chosen::Nothing | Chosen::Item | Chosen::Over => None,
         }
     }
 
@@ -297,21 +322,13 @@ impl<T: Drop> Machine for PublishOnEagerNode<T> {
         if self.chosen != Chosen::Nothing || self.held.input.queue.is_empty() {
             return false;
         }
-        if !self.choices.fits(input) {
-            return false;
-        }
         match self.held.input.tail {
-            // It overtakes the items, so they can't be chosen any more.
-            Tail::Failure(_) => input == 1,
-            Tail::Open | Tail::Completion => input == 0 && sent < asked,
-            Tail::Taken => false,
+            Tail::Failure(_) => input == 1 && self.choices.fits(input),
+            Tail::Open | Tail::Completion | Tail::Taken => false,
         }
     }
 
     fn next_pick(&self, asked: u64, sent: u64) -> Option<u64> {
-        if self.can_pick(0, asked, sent) {
-            return Some(0);
-        }
         if self.can_pick(1, asked, sent) {
             return Some(1);
         }
@@ -339,10 +356,6 @@ impl<T: Drop> Machine for PublishOnEagerNode<T> {
             return Err(NotMade::NotEnabled);
         }
         self.choices.push(input);
-        if input == 0 {
-            self.chosen = Chosen::Item;
-            return Ok(());
-        }
         // The failure overtakes the items that stand before it.
         self.held.input.queue.clear();
         self.chosen = Chosen::Failure;

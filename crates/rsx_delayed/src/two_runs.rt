@@ -2,15 +2,15 @@
 
 ghost use Rattle.std.specs.Prelude.{◌≡◌, ◌∷◌, ◌++◌, [], true, IfOk, OnOk};
 ghost use Rattle.rsx_values.specs.Record.{times, written};
-ghost use Rattle.rsx_delayed.specs.TwoRuns.{fits, with_choice};
+ghost use Rattle.rsx_delayed.specs.TwoRuns.{fits, with_choice, without_choice};
 
 use rsx_types::{Choices, NoMemory};
 use rsx_values::Run;
 use std::alloc::Global;
 use std::marker::Model;
 
-/// The choices of a node that makes one choice any number of times, and then another once at most. Contracts see the list of the
-/// runs.
+/// The choices of a node that makes one choice any number of times, and then another once at most. No count is 0. Contracts see the
+/// list of the runs.
 ///
 /// The memory for them is taken when it is made, and no later call but [`TwoRuns::choices`] takes any.
 #[derive(Drop)]
@@ -21,12 +21,13 @@ pub struct TwoRuns {
 impl Model for TwoRuns {
     ghost use Rattle.std.specs.Prelude.{◌≤◌, List, vec_capacity};
     ghost use Rattle.rsx_values.specs.declared.record.Run.{Run};
+    ghost use Rattle.rsx_delayed.specs.TwoRuns.{AreFilled};
 
     ghost Value = { List Run };
 
     ghost view = { λ r. r.runs.items };
 
-    ghost invariant = { λ r. 2 ≤ vec_capacity r.runs };
+    ghost invariant = { λ r. (2 ≤ vec_capacity r.runs) × AreFilled r.runs.items };
 }
 
 impl TwoRuns {
@@ -65,12 +66,27 @@ impl TwoRuns {
         requires { fits self.old input ≡ true }
         ensures runs { self.new ≡ with_choice self.old input }
         ensures written { written self.new ≡ written self.old ++ input ∷ [] }
+        ensures last { without_choice self.new ≡ self.old }
     {
         if self.runs.len() == 1 && self.runs[0].input == input {
             self.runs[0].count += 1;
             return;
         }
         self.runs.push_reserved(Run { input, count: 1 });
+    }
+
+    /// Takes the last choice away, if there is one. It takes no memory.
+    pub fn pop(&mut self)
+        ensures { self.new ≡ without_choice self.old }
+    {
+        if let Some(run) = self.runs.pop() {
+            if run.count > 1 {
+                self.runs.push_reserved(Run {
+                    input: run.input,
+                    count: run.count - 1,
+                });
+            }
+        }
     }
 
     /// The choices one by one.

@@ -259,6 +259,8 @@ impl<T: Drop> Machine for GroupByNode<T> {
 
     ghost recorded = { group_recorded };
 
+    ghost popping = { λ n. None };
+
     ghost ended = { group_ended };
 
     ghost done = { group_done };
@@ -298,6 +300,10 @@ impl<T: Drop> Machine for GroupByNode<T> {
         ensures memory { IsOk result }
     {
         Ok(self.output.pop())
+    }
+
+    fn records_pop(&self) -> bool {
+        false
     }
 
     fn put_back(&mut self, signal: Signal<T>)

@@ -173,6 +173,8 @@ impl<T: Drop> Machine for HubLeaf<T> {
 
     ghost recorded = { λ n. Nothing };
 
+    ghost popping = { λ n. None };
+
     ghost ended = { λ n. false };
 
     ghost done = { λ n i. false };
@@ -210,6 +212,10 @@ impl<T: Drop> Machine for HubLeaf<T> {
             Some(Front::Failure(cause)) => Ok(Some(Signal::Error(cause))),
             None => Ok(None),
         }
+    }
+
+    fn records_pop(&self) -> bool {
+        false
     }
 
     fn put_back(&mut self, signal: Signal<T>)

@@ -4,7 +4,7 @@ use Rattle.std.proofs.lemmas.Bool.{true≢false}
 use Rattle.rsx_hub.specs.Leaf.{LeafState}
 use Rattle.rsx_rooted.proofs.HubLeaves.{leaf_machine}
 use Rattle.rsx_rooted.proofs.OneByOne.{passed_in, popped_in}
-use Rattle.rsx_rooted.specs.Items.{ArePassed, ArePopped, IsIn, IsOutBy}
+use Rattle.rsx_rooted.specs.Items.{ArePassed, ArePopped, IsIn, IsOut, IsOutBy}
 use Rattle.rsx_rooted.specs.Machines.{plain_machine, range_machine}
 use Rattle.rsx_rooted.specs.Went.{leaf_went, plain_went, range_went}
 use Rattle.rsx_rooted.specs.declared.batch.After.TheVariants.{Counted, Picked, Latest as LatestAfter}
@@ -14,7 +14,6 @@ use Rattle.rsx_sources.specs.Prelude.{Meaning, Nothing}
 use Rattle.rsx_sources.specs.declared.machine.Machine.{Ghosts as Machine}
 use Rattle.rsx_sources.specs.declared.machine.Passed.TheVariants.{Kept}
 use Rattle.rsx_sources.specs.declared.range.RangeNode.{RangeNode}
-use Rattle.rsx_tree.specs.Fetched.{IsOut}
 use Rattle.rsx_tree.specs.Stepped.{IsStepOf}
 use Rattle.rsx_kinds.specs.Any.{kind_machine}
 use Rattle.rsx_kinds.specs.Went.{any_went, several_went, source_went}
@@ -54,6 +53,7 @@ source_machine = record {
   rowed = λ n a s k. ⊥;
   recording = λ n i. Nothing;
   recorded = λ n. Nothing;
+  popping = λ n. None;
   ended = λ n. false;
   done = λ n i. false;
   counted = source_counted;
@@ -68,19 +68,19 @@ source_machine = record {
 }
 
 out_range : {T : Type 0} (m : Meaning T) (s : RangeNode T) (x : T) (t : RangeNode T) → IsOut range_machine m s x t → IsOut source_machine m (Range s) x (Range t)
-out_range m s x t h = (record { waited = h.0.waited; popped_out = h.0.popped_out; value = h.0.value; notes = h.0.notes; counts = h.0.counts }, h.1)
+out_range m s x t h = (record { waited = h.0.waited; popped_out = h.0.popped_out; value = h.0.value; notes = h.0.notes; counts = h.0.counts }, h.1, h.2)
 
 out_hub : {T : Type 0} (m : Meaning T) (s : LeafState T) (x : T) (t : LeafState T) → IsOut leaf_machine m s x t → IsOut source_machine m (Hub s) x (Hub t)
-out_hub m s x t h = (record { waited = h.0.waited; popped_out = h.0.popped_out; value = h.0.value; notes = h.0.notes; counts = h.0.counts }, h.1)
+out_hub m s x t h = (record { waited = h.0.waited; popped_out = h.0.popped_out; value = h.0.value; notes = h.0.notes; counts = h.0.counts }, h.1, h.2)
 
 out_source : {T : Type 0} (m : Meaning T) (s : SourceNode T) (x : T) (t : SourceNode T) → IsOut source_machine m s x t → IsOut kind_machine m (Source s) x (Source t)
-out_source m s x t h = (record { waited = h.0.waited; popped_out = h.0.popped_out; value = h.0.value; notes = h.0.notes; counts = h.0.counts }, h.1)
+out_source m s x t h = (record { waited = h.0.waited; popped_out = h.0.popped_out; value = h.0.value; notes = h.0.notes; counts = h.0.counts }, h.1, h.2)
 
 in_plain : {T : Type 0} (m : Meaning T) (i : ℕ) (s : PlainNode T) (x : T) (t : PlainNode T) → IsIn plain_machine m i s x t → IsIn kind_machine m i (Plain s) x (Plain t)
 in_plain m i s x t h = (passed_plain m s t i x Kept h.0, h.1)
 
 out_plain : {T : Type 0} (m : Meaning T) (s : PlainNode T) (x : T) (t : PlainNode T) → IsOut plain_machine m s x t → IsOut kind_machine m (Plain s) x (Plain t)
-out_plain m s x t h = (record { waited = h.0.waited; popped_out = h.0.popped_out; value = h.0.value; notes = h.0.notes; counts = h.0.counts }, h.1)
+out_plain m s x t h = (record { waited = h.0.waited; popped_out = h.0.popped_out; value = h.0.value; notes = h.0.notes; counts = h.0.counts }, h.1, h.2)
 
 no_step : {T : Type 0} (m : Meaning T) (s : RangeNode T) (asked sent : ℕ) (t : RangeNode T) → IsStepOf range_machine m s asked sent t → ⊥
 no_step m s asked sent t (inl p) = true≢false (sym p.1.can)
@@ -167,6 +167,7 @@ several_machine = record {
   rowed = several_rowed;
   recording = several_recording;
   recorded = several_recorded;
+  popping = λ n. None;
   ended = several_ended;
   done = several_done;
   counted = several_counted;
@@ -187,7 +188,7 @@ through_concat m i (x ∷ xs) n takes =
     let h = goes_through_concat m n i x takes in (
       Concat h.0,
       (passed_concat m n h.0 i x Kept h.1, (refl, (refl, λ a. (refl, refl, refl)))),
-      inr (x, xs, Concat (after_passed n), refl, (item_out_concat m h.0 (after_passed n) (Some x) h.2, (refl, (refl, λ a. (refl, refl, refl)))), through_concat m i xs (after_passed n) takes),
+      inr (x, xs, Concat (after_passed n), refl, (item_out_concat m h.0 (after_passed n) (Some x) h.2, (refl, (refl, λ a. (refl, refl, refl))), refl), through_concat m i xs (after_passed n) takes),
     )
 
 pub passed_concat_all : {T : Type 0} (m : Meaning T) (i : ℕ) (old new : SeveralNode T) (n : ConcatNode T) (took : ℕ) (xs : List T) → old ≡ Concat n → concat_takes n i Item ≡ true → took ≡ length xs → several_went old (record { took = took; steps = 0; by_step = false; after = Counted }) new →
@@ -215,7 +216,7 @@ picks_merge m i (x ∷ xs) n can =
               Merge o.0,
               inl (i, record { can = p.enabled; value = p.value; recorded = p.notes; composes = p.composes; counts = stepped_merge h.0 o.0 p.counts; alike = (refl, (refl, λ a. (refl, refl, refl))) }),
               o.2,
-              (item_out_merge m o.0 (after_merged n i) (Some x) o.3, (refl, (refl, λ a. (refl, refl, refl)))),
+              (item_out_merge m o.0 (after_merged n i) (Some x) o.3, (refl, (refl, λ a. (refl, refl, refl))), refl),
             )),
         picks_merge m i xs (after_merged n i) (merges_others n i (length xs) can),
       ),
@@ -249,7 +250,7 @@ rows_latest m i (x ∷ xs) (y ∷ ys) n can rows =
               Latest o.0,
               inl (i, record { can = p.enabled; value = p.value; recorded = p.notes; composes = p.composes; counts = stepped_latest h.0 o.0 p.counts; alike = (refl, (refl, λ a. (refl, refl, refl))) }),
               o.2,
-              (item_out_latest m o.0 (after_row n i x) (Some y) o.3, (refl, (refl, λ a. (refl, refl, refl)))),
+              (item_out_latest m o.0 (after_row n i x) (Some y) o.3, (refl, (refl, λ a. (refl, refl, refl))), refl),
             )),
         rows_latest m i xs ys (after_row n i x) (goes_on_through n i (length xs) x can) rows.1,
       ),
@@ -267,7 +268,7 @@ in_several : {T : Type 0} (m : Meaning T) (i : ℕ) (s : SeveralNode T) (x : T) 
 in_several m i s x t h = (passed_several m s t i x Kept h.0, h.1)
 
 out_several : {T : Type 0} (m : Meaning T) (s : SeveralNode T) (x : T) (t : SeveralNode T) → IsOut several_machine m s x t → IsOut kind_machine m (Several s) x (Several t)
-out_several m s x t h = (record { waited = h.0.waited; popped_out = h.0.popped_out; value = h.0.value; notes = h.0.notes; counts = h.0.counts }, h.1)
+out_several m s x t h = (record { waited = h.0.waited; popped_out = h.0.popped_out; value = h.0.value; notes = h.0.notes; counts = h.0.counts }, h.1, h.2)
 
 step_several : {T : Type 0} (m : Meaning T) (s : SeveralNode T) (asked sent : ℕ) (t : SeveralNode T) → IsStepOf several_machine m s asked sent t → IsStepOf kind_machine m (Several s) asked sent (Several t)
 step_several m s asked sent t (inl p) =
@@ -305,7 +306,7 @@ through_publish_on m i (x ∷ xs) n empty takes =
     let h = goes_through m n i x empty takes in (
       PublishOn h.0,
       (passed_publish_on m n h.0 i x Kept h.1, (refl, (refl, λ a. (refl, refl, refl)))),
-      inr (x, xs, PublishOn n, refl, (item_out_publish_on m h.0 n (Some x) h.2, (refl, (refl, λ a. (refl, refl, refl)))), through_publish_on m i xs n empty takes),
+      inr (x, xs, PublishOn n, refl, (item_out_publish_on m h.0 n (Some x) h.2, (refl, (refl, λ a. (refl, refl, refl))), refl), through_publish_on m i xs n empty takes),
     )
 
 pub passed_publish_on_all : {T : Type 0} (m : Meaning T) (i : ℕ) (old new : AnyNode T) (n : PublishOnNode T) (noted : Noted T) (xs : List T) → old ≡ PublishOn n → n.input.queue.items ≡ [] → publish_takes n i Item ≡ true → any_went old noted new →

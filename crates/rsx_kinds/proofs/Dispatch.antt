@@ -1,7 +1,7 @@
 -- A node of any kind moves as its kind does.
-use Rattle.std.specs.Prelude.{IfSome, ⊤}
-use Rattle.std.proofs.Common.{◌≡◌, ap, refl, ℕ, false, Option, Some, None}
-use Rattle.rsx_sources.specs.Prelude.{Meaning, Nothing, Signal, Next, Complete, Error, CountsIn, CountsOut, CountsStep, IsItemOut, IsPassed, IsTakenIn, IsReadOn, IsPopped, ItemsLeft, items_comes_out, items_popped, items_waiting, range_comes_out, range_popped, range_waiting}
+use Rattle.std.specs.Prelude.{IfOk, IfSome, ⊤}
+use Rattle.std.proofs.Common.{◌≡◌, ap, refl, ℕ, false, Option, Some, None, Result, Ok, Err}
+use Rattle.rsx_sources.specs.Prelude.{Meaning, NoMemory, Note, Nothing, Signal, Next, Complete, Error, CountsIn, CountsOut, CountsStep, IsItemOut, IsItemOutBy, IsPassed, IsTakenIn, IsReadOn, IsPopped, IsPoppedBy, IsPoppedNoting, ItemsLeft, items_comes_out, items_popped, items_waiting, range_comes_out, range_popped, range_waiting}
 use Rattle.rsx_kinds.specs.Prelude.{AnyNode, CountsItems, Declined, PublishOnEagerNode, FlatMapDelayNode, FlatMapNode, GroupByNode, IsGoing, IsPoppedGroup, IsPoppedWindow, Item, Kept, LeafState, Passed, PlainNode, RangeNode, SeveralNode, SourceNode, WindowNode, any_comes_out, any_counted, any_done, any_ended, any_popped, any_recorded, any_takes, any_waiting, IsEagerCounted, eager_comes_out, eager_done, eager_ended, eager_popped, eager_recorded, eager_takes, eager_waiting, flat_comes_out, flat_delay_comes_out, flat_delay_counted, flat_delay_done, flat_delay_ended, flat_delay_popped, flat_delay_recorded, flat_delay_takes, flat_delay_waiting, flat_done, flat_ended, flat_popped, flat_recorded, flat_takes, flat_waiting, group_comes_out, group_counted, group_done, group_ended, group_recorded, group_takes, group_waiting, leaf_comes_out, leaf_counted, leaf_popped, leaf_reads, leaf_waiting, plain_comes_out, plain_counted, plain_ended, plain_popped, plain_takes, plain_waiting, publish_comes_out, publish_counted, publish_ended, publish_popped, publish_takes, publish_waiting, several_comes_out, several_counted, several_done, several_ended, several_popped, several_recorded, several_takes, several_waiting, source_comes_out, source_counted, source_popped, source_reads, source_waiting, window_comes_out, window_done, window_ended, window_takes, window_waiting}
 use Rattle.rsx_merging.specs.declared.publish_on_node.PublishOnNode.{PublishOnNode}
 use Rattle.rsx_kinds.specs.declared.any_node.AnyNode.TheVariants.{Source, Plain, Several, PublishOn, PublishOnEager, Window, FlatMap, FlatMapDelay, GroupBy}
@@ -100,9 +100,30 @@ pub popped_publish_on : {T : Type 0} (m : Meaning T) (old new : PublishOnNode T)
 popped_publish_on m old new None h = (h.0, ap PublishOn h.1)
 popped_publish_on m old new (Some s) h = h
 
-pub popped_publish_on_eager : {T : Type 0} (m : Meaning T) (old new : PublishOnEagerNode T) (o : Option (Signal T)) → IsPopped (eager_comes_out m) eager_popped (eager_waiting m old) old o new → IsPopped (any_comes_out m) any_popped (eager_waiting m old) (PublishOnEager old) o (PublishOnEager new)
-popped_publish_on_eager m old new None h = (h.0, ap PublishOnEager h.1)
-popped_publish_on_eager m old new (Some s) h = h
+noting_publish_on_eager : {T : Type 0} (m : Meaning T) (k : Note) (w : Option (Signal T)) (old : PublishOnEagerNode T) (s : Signal T) (new : PublishOnEagerNode T) → IsPoppedNoting (eager_comes_out m) eager_popped eager_recorded eager_ended k w old s new →
+    IsPoppedNoting (any_comes_out m) any_popped any_recorded any_ended k w (PublishOnEager old) s (PublishOnEager new)
+noting_publish_on_eager m k w old s new h = record {
+  waited = h.waited;
+  item = h.item;
+  popped_out = h.popped_out;
+  ready = PublishOnEager h.ready;
+  noted = let r = h.noted in record { value = r.value; notes = r.notes; composes = r.composes; goes_on = r.goes_on };
+  value = h.value;
+  notes = h.notes;
+}
+
+-- its items may be recorded as they go out
+recorded_or_not : {T : Type 0} (m : Meaning T) (p : Option Note) (w : Option (Signal T)) (old : PublishOnEagerNode T) (o : Option (Signal T)) (new : PublishOnEagerNode T) → IsPoppedBy (eager_comes_out m) eager_popped eager_recorded eager_ended p w old o new →
+    IsPoppedBy (any_comes_out m) any_popped any_recorded any_ended p w (PublishOnEager old) o (PublishOnEager new)
+recorded_or_not m None w old None new h = (h.0, ap PublishOnEager h.1)
+recorded_or_not m None w old (Some s) new h = h
+recorded_or_not m (Some k) w old None new h = (h.0, ap PublishOnEager h.1)
+recorded_or_not m (Some k) w old (Some s) new h = noting_publish_on_eager m k w old s new h
+
+pub popped_publish_on_eager : {T : Type 0} (m : Meaning T) (p : Option Note) (w : Option (Signal T)) (old new : PublishOnEagerNode T) (r : Result (Option (Signal T)) NoMemory) → IfOk r (λ o. IsPoppedBy (eager_comes_out m) eager_popped eager_recorded eager_ended p w old o new) →
+    IfOk r (λ o. IsPoppedBy (any_comes_out m) any_popped any_recorded any_ended p w (PublishOnEager old) o (PublishOnEager new))
+popped_publish_on_eager m p w old new (Ok o) h = recorded_or_not m p w old o new h
+popped_publish_on_eager m p w old new (Err e) h = tt
 
 pub popped_window : {T : Type 0} (m : Meaning T) (old new : WindowNode T) (o : Option (Signal T)) → IsPopped (window_comes_out m) IsPoppedWindow (window_waiting m old) old o new → IsPopped (any_comes_out m) any_popped (window_waiting m old) (Window old) o (Window new)
 popped_window m old new None h = (h.0, ap Window h.1)
@@ -293,9 +314,18 @@ pub item_out_publish_on : {T : Type 0} (m : Meaning T) (old new : PublishOnNode 
 item_out_publish_on m old new None h = h
 item_out_publish_on m old new (Some x) h = record { waited = h.waited; popped_out = h.popped_out; value = h.value; notes = h.notes; counts = h.counts }
 
-pub item_out_publish_on_eager : {T : Type 0} (m : Meaning T) (old new : PublishOnEagerNode T) (o : Option T) → IfSome o (λ x. IsItemOut (eager_comes_out m) (eager_waiting m) eager_popped eager_recorded IsEagerCounted eager_ended eager_done old x new) → IfSome o (λ x. IsOutAny m (PublishOnEager old) x (PublishOnEager new))
-item_out_publish_on_eager m old new None h = h
-item_out_publish_on_eager m old new (Some x) h = record { waited = h.waited; popped_out = h.popped_out; value = h.value; notes = h.notes; counts = h.counts }
+out_publish_on_eager : {T : Type 0} (m : Meaning T) (old new : PublishOnEagerNode T) (x : T) → IsItemOut (eager_comes_out m) (eager_waiting m) eager_popped eager_recorded IsEagerCounted eager_ended eager_done old x new → IsOutAny m (PublishOnEager old) x (PublishOnEager new)
+out_publish_on_eager m old new x h = record { waited = h.waited; popped_out = h.popped_out; value = h.value; notes = h.notes; counts = h.counts }
+
+item_recorded_or_not : {T : Type 0} (m : Meaning T) (p : Option Note) (old new : PublishOnEagerNode T) (x : T) → IsItemOutBy (eager_comes_out m) (eager_waiting m) eager_popped eager_recorded IsEagerCounted eager_ended eager_done p old x new →
+    IsItemOutBy (any_comes_out m) (any_waiting m) any_popped any_recorded any_counted any_ended any_done p (PublishOnEager old) x (PublishOnEager new)
+item_recorded_or_not m None old new x h = out_publish_on_eager m old new x h
+item_recorded_or_not m (Some k) old new x h = (noting_publish_on_eager m k (eager_waiting m old) old (Next x) new h.0, counted_publish_on_eager old new (Some (Next x)) h.1)
+
+pub item_out_publish_on_eager : {T : Type 0} (m : Meaning T) (p : Option Note) (old new : PublishOnEagerNode T) (o : Option T) → IfSome o (λ x. IsItemOutBy (eager_comes_out m) (eager_waiting m) eager_popped eager_recorded IsEagerCounted eager_ended eager_done p old x new) →
+    IfSome o (λ x. IsItemOutBy (any_comes_out m) (any_waiting m) any_popped any_recorded any_counted any_ended any_done p (PublishOnEager old) x (PublishOnEager new))
+item_out_publish_on_eager m p old new None h = h
+item_out_publish_on_eager m p old new (Some x) h = item_recorded_or_not m p old new x h
 
 in_publish_on : {T : Type 0} (m : Meaning T) (old new : PublishOnNode T) (i : ℕ) (s : Signal T) → IsTakenIn (publish_comes_out m) publish_takes (λ n. Nothing) publish_counted publish_ended (λ n j. false) old i s new →
     IsTakenIn (any_comes_out m) any_takes any_recorded any_counted any_ended any_done (PublishOn old) i s (PublishOn new)
@@ -313,7 +343,7 @@ passed_publish_on m old new i x (Declined y) h = (h.0, ap PublishOn h.1)
 
 pub passed_publish_on_eager : {T : Type 0} (m : Meaning T) (old new : PublishOnEagerNode T) (i : ℕ) (x : T) (r : Passed T) → IsPassed (eager_comes_out m) (eager_waiting m) eager_takes eager_popped eager_recorded IsEagerCounted eager_ended eager_done old i x r new →
     IsPassed (any_comes_out m) (any_waiting m) any_takes any_popped any_recorded any_counted any_ended any_done (PublishOnEager old) i x r (PublishOnEager new)
-passed_publish_on_eager m old new i x (Item y) h = (PublishOnEager h.0, in_publish_on_eager m old h.0 i (Next x) h.1, item_out_publish_on_eager m h.0 new (Some y) h.2)
+passed_publish_on_eager m old new i x (Item y) h = (PublishOnEager h.0, in_publish_on_eager m old h.0 i (Next x) h.1, out_publish_on_eager m h.0 new y h.2)
 passed_publish_on_eager m old new i x Kept h = in_publish_on_eager m old new i (Next x) h
 passed_publish_on_eager m old new i x (Declined y) h = (h.0, ap PublishOnEager h.1)
 

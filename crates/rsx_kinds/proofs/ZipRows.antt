@@ -43,7 +43,7 @@ step_asked m old mid asked sent less (inr h) =
 
 row_out : {T : Type 0} (m : Meaning T) (old : ZipState T) (x : T) (new : ZipState T) → IsRowOut m old x new → IsOutBy several_machine m true (Zip old) x (Zip new)
 row_out m old x new h = λ asked sent less.
-    (Zip h.0, step_asked m old h.0 asked sent less h.1, goes_on h.0.output x h.2.waited, (item_out_zip m h.0 new (Some x) h.2, (refl, (refl, λ a. (refl, refl, refl)))))
+    (Zip h.0, step_asked m old h.0 asked sent less h.1, goes_on h.0.output x h.2.waited, (item_out_zip m h.0 new (Some x) h.2, (refl, (refl, λ a. (refl, refl, refl))), refl))
 
 pub rows_out : {T : Type 0} (m : Meaning T) (xs : List T) (n k : ZipState T) → ArePopped (IsRowOut m) n xs k → ArePopped (IsOutBy several_machine m true) (Zip n) xs (Zip k)
 rows_out m xs n k h = popped_in Zip (IsRowOut m) (IsOutBy several_machine m true) (row_out m) xs n k h

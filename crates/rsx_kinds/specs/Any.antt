@@ -5,13 +5,13 @@ use Rattle.rsx_sources.specs.Prelude.{Note, Nothing, Signal, Meaning, Allocates,
 use Rattle.rsx_sources.specs.declared.machine.Front.{Front}
 use Rattle.rsx_sources.specs.declared.machine.Machine.{Ghosts as Machine}
 use Rattle.rsx_queued.specs.declared.sender.Sender.{Sender}
-use Rattle.rsx_queued.specs.Sender.{is_crossing, sender_comes_out, sender_waiting, sender_shown, sender_takes, sender_picks, sender_rows, sender_rowed, sender_recording, sender_recorded, sender_ended, sender_done, sender_counted, sender_wanted, sender_popped, sender_reads, sender_rooms, sender_pop_allocates, sender_signal_allocates, sender_step_allocates}
+use Rattle.rsx_queued.specs.Sender.{is_crossing, sender_comes_out, sender_waiting, sender_shown, sender_takes, sender_picks, sender_rows, sender_rowed, sender_recording, sender_recorded, sender_popping, sender_ended, sender_done, sender_counted, sender_wanted, sender_popped, sender_reads, sender_rooms, sender_pop_allocates, sender_signal_allocates, sender_step_allocates}
 use Rattle.rsx_plain.specs.Node.{plain_comes_out, plain_waiting, plain_shown, plain_popped, plain_takes, plain_wanted, plain_ended, plain_allocates, plain_counted}
 use Rattle.rsx_kinds.specs.Several.{several_comes_out, several_waiting, several_shown, several_takes, several_picks, several_rows, several_rowed, several_recording, several_recorded, several_ended, several_done, several_counted, several_wanted, several_popped, several_step_allocates}
 use Rattle.rsx_merging.specs.PublishOn.{publish_comes_out, publish_waiting, publish_shown, publish_popped, publish_takes, publish_wanted, publish_ended, publish_counted}
 use Rattle.rsx_window.specs.Window.{window_comes_out, window_waiting, window_shown, window_takes, window_ended, window_done, window_wanted, IsPoppedWindow, CountsItems}
 use Rattle.rsx_delayed.specs.FlatMapDelay.{flat_delay_comes_out, flat_delay_waiting, flat_delay_shown, flat_delay_takes, flat_delay_picks, flat_delay_recording, flat_delay_recorded, flat_delay_ended, flat_delay_done, flat_delay_counted, flat_delay_wanted, flat_delay_popped}
-use Rattle.rsx_delayed.specs.PublishOnEager.{eager_comes_out, eager_waiting, eager_shown, eager_takes, eager_picks, eager_recording, eager_recorded, eager_ended, eager_done, eager_wanted, eager_popped, IsEagerCounted}
+use Rattle.rsx_delayed.specs.PublishOnEager.{eager_comes_out, eager_waiting, eager_shown, eager_takes, eager_picks, eager_recording, eager_recorded, eager_popping, eager_ended, eager_done, eager_wanted, eager_popped, IsEagerCounted}
 use Rattle.rsx_merging.specs.FlatMap.{flat_comes_out, flat_waiting, flat_shown, flat_takes, flat_picks, flat_recording, flat_recorded, flat_ended, flat_done, flat_wanted, flat_popped, IsGoing}
 use Rattle.rsx_grouping.specs.GroupBy.{group_comes_out, group_waiting, group_shown, group_takes, group_picks, group_recording, group_recorded, group_ended, group_done, group_counted, group_wanted, IsPoppedGroup}
 use Rattle.rsx_kinds.specs.Source.{source_comes_out, source_waiting, source_shown, source_popped, source_reads, source_counted, source_rooms, source_pop_allocates}
@@ -118,6 +118,18 @@ any_recorded (Window n) = Nothing
 any_recorded (FlatMap n) = flat_recorded n
 any_recorded (FlatMapDelay n) = flat_delay_recorded n
 any_recorded (GroupBy n) = group_recorded n
+
+-- what taking the offered signal out adds to what it recorded; only `publishOnEager` records its items as they go out
+abbrev pub any_popping : {T : Type 0} → AnyNode T → Option Note
+any_popping (Source n) = None
+any_popping (Plain n) = None
+any_popping (Several n) = None
+any_popping (PublishOn n) = None
+any_popping (PublishOnEager n) = eager_popping n
+any_popping (Window n) = None
+any_popping (FlatMap n) = None
+any_popping (FlatMapDelay n) = None
+any_popping (GroupBy n) = None
 
 -- whether its ending was put out
 abbrev pub any_ended : {T : Type 0} → AnyNode T → Bool
@@ -252,6 +264,7 @@ kind_machine = record {
   rowed = any_rowed;
   recording = any_recording;
   recorded = any_recorded;
+  popping = any_popping;
   ended = any_ended;
   done = any_done;
   counted = any_counted;
@@ -281,6 +294,7 @@ any_machine = record {
   rowed = sender_rowed kind_machine;
   recording = sender_recording kind_machine;
   recorded = sender_recorded kind_machine;
+  popping = sender_popping kind_machine;
   ended = sender_ended kind_machine;
   done = sender_done kind_machine;
   counted = sender_counted kind_machine;

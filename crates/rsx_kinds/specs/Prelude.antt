@@ -3,7 +3,7 @@ pub use Rattle.rsx_grouping.specs.GroupBy.{GivesGroups, IsPoppedGroup, group_com
 pub use Rattle.rsx_grouping.specs.declared.node.GroupByNode.{GroupByNode}
 pub use Rattle.rsx_hub.specs.Hub.{BeginsWith, HasTakenIn, HubState, join}
 pub use Rattle.rsx_hub.specs.Leaf.{LeafState, leaf_comes_out, leaf_counted, leaf_popped, leaf_reads, leaf_waiting, member_of, reading_of}
-pub use Rattle.rsx_kinds.specs.Any.{TreeNode, any_comes_out, any_counted, any_done, any_ended, any_machine, any_popped, any_recorded, any_takes, any_waiting, kind_machine}
+pub use Rattle.rsx_kinds.specs.Any.{TreeNode, any_comes_out, any_counted, any_done, any_ended, any_machine, any_popped, any_popping, any_recorded, any_takes, any_waiting, kind_machine}
 pub use Rattle.rsx_kinds.specs.Built.{AllUnrecorded, AreBegun, AreBuilt, IsBuilt, IsBuiltOver, IsPlainOver, IsUnrecorded, StandAt, WantsOfEach, counts_of, first_wants, fresh_beside, fresh_edge, fresh_edges, fresh_wants, join_at, joins_now, new_joins, new_joins_of, prefetch_of, starts_ended, wants_beside}
 pub use Rattle.rsx_kinds.specs.Crossings.{ArePlaced, IsAlone, IsPlaced, IsPlacedOver, Placed, crossings, differ, fresh_crossings, is_crossing, opposite, placed, placed_beside, placed_here, placed_in}
 pub use Rattle.rsx_kinds.specs.Kind.{GivesKind, IsWithin, first_wanted, joined, recorded_first}
@@ -17,7 +17,7 @@ pub use Rattle.rsx_kinds.specs.declared.several_node.SeveralNode.{SeveralNode}
 pub use Rattle.rsx_kinds.specs.declared.source_node.SourceNode.{SourceNode}
 pub use Rattle.rsx_delayed.specs.FlatMapDelay.{GivesFlatMapDelay, flat_delay_comes_out, flat_delay_counted, flat_delay_done, flat_delay_ended, flat_delay_popped, flat_delay_recorded, flat_delay_takes, flat_delay_waiting, flat_delay_wanted}
 pub use Rattle.rsx_delayed.specs.declared.flat_map_delay_node.FlatMapDelayNode.{FlatMapDelayNode}
-pub use Rattle.rsx_delayed.specs.PublishOnEager.{IsEagerCounted, eager_comes_out, eager_done, eager_ended, eager_popped, eager_recorded, eager_takes, eager_waiting, eager_wanted}
+pub use Rattle.rsx_delayed.specs.PublishOnEager.{IsEagerCounted, eager_comes_out, eager_done, eager_ended, eager_popped, eager_popping, eager_recorded, eager_takes, eager_waiting, eager_wanted}
 pub use Rattle.rsx_delayed.specs.declared.publish_on_eager_node.PublishOnEagerNode.{PublishOnEagerNode}
 pub use Rattle.rsx_merging.specs.FlatMap.{GivesFlatMap, IsGoing, flat_comes_out, flat_done, flat_ended, flat_popped, flat_recorded, flat_takes, flat_waiting, flat_wanted}
 pub use Rattle.rsx_merging.specs.PublishOn.{publish_comes_out, publish_counted, publish_ended, publish_popped, publish_takes, publish_waiting, publish_wanted}

@@ -1,6 +1,6 @@
 -- A node with the queue of its edge rests where the node inside does: its queue is empty then, and the Send over its edge isn't
 -- enabled, so the node inside offers nothing.
-use Rattle.std.proofs.Common.{◌≡◌, ◌<◌, ◌+◌, ◌^◌, ℕ, Bool, true, false, ◌&&◌, ◌||◌, min, List, [], ◌∷◌, Option, Some, None, option_map, slice_get, refl, ap, sym, ◌∙◌, subst, arith}
+use Rattle.std.proofs.Common.{◌≡◌, ◌<◌, ◌+◌, ◌^◌, ℕ, Bool, true, false, ◌&&◌, ◌||◌, min, List, [], ◌∷◌, Option, Some, None, option_map, slice_get, inl, inr, refl, ap, sym, ◌∙◌, subst, arith}
 use Rattle.rsx_sources.specs.Prelude.{Open as OpenEnding, Signal, Meaning, unchosen, ended_by, AreWithin, Incoming, front_of, Reading}
 use Rattle.rsx_sources.specs.declared.machine.Front.{Front}
 use Rattle.rsx_sources.specs.declared.machine.Machine.{Ghosts as Machine}
@@ -8,7 +8,7 @@ use Rattle.rsx_queued.specs.declared.sender.Sender.{Sender}
 use Rattle.rsx_queued.specs.declared.sender.Sender.TheVariants.{Direct, Crossing}
 use Rattle.rsx_queued.specs.declared.tail.Tail.{Tail}
 use Rattle.rsx_queued.specs.declared.tail.Tail.TheVariants.{Open, Completion, Failure, Taken}
-use Rattle.rsx_queued.specs.Prelude.{first_held, held_then, is_open, Shows, may_go_less, nothing_queued, can_move, counted_in, ended_in, is_ended, may_go, node_sent, out, pick_of, reads_in, row_of, sender_comes_out, sender_counted, sender_done, sender_ended, sender_picks, sender_reads, sender_recorded, sender_rooms, sender_rows, sender_takes, sender_waiting, sender_wanted}
+use Rattle.rsx_queued.specs.Prelude.{first_held, held_then, is_open, Shows, may_go_less, moved_goes, nothing_noted, nothing_queued, can_move, counted_in, ended_in, is_ended, may_go, node_sent, out, pick_by, pick_of, pop_note, reads_in, row_by, row_of, sender_comes_out, sender_counted, sender_done, sender_ended, sender_picks, sender_reads, sender_recorded, sender_rooms, sender_rows, sender_takes, sender_waiting, sender_wanted}
 use Rattle.rsx_hub.specs.declared.TheConstants.{MOST_ACCEPTED}
 use Rattle.rsx_tree.specs.Rests.{IsStuck, NothingBehind, NothingComes, Rests, coming}
 
@@ -17,10 +17,6 @@ use Rattle.rsx_tree.specs.Rests.{IsStuck, NothingBehind, NothingComes, Rests, co
 both : (c : Bool) → c ≡ true → c ≡ false → ⊥
 both c x y = cc
 
-first_false : (c d : Bool) → c || d ≡ false → c ≡ false
-first_false true d e = e
-first_false false d e = refl
-
 second_false : (c d : Bool) → c || d ≡ false → d ≡ false
 second_false true d e = cc
 second_false false d e = e
@@ -28,12 +24,21 @@ second_false false d e = e
 abbrev nothing : {A : Type 0} → List A
 nothing = []
 
--- no row can be made, so the node inside can make none, and offers nothing
+-- no row can be made and input 0 can't be picked, so nothing can go over the edge: the node inside offers nothing. Then nothing would be
+-- recorded there, and its own rows and picks are those that can't be made.
 abbrev IsAtRest : {M T : Type 0} → Machine M T → Meaning T → M → ℕ → ℕ → Type 0
 IsAtRest b m n asked sent = (b.waiting m n ≡ None) × IsStuck b.picks b.rows n asked sent
 
 inside : {M T : Type 0} (b : Machine M T) (m : Meaning T) → Shows b m → (n : M) (asked sent : ℕ) → sent < asked → ((i : ℕ) → i < 2 ^ 64 → pick_of b n (nothing {A = T}) Open i asked sent ≡ false) → row_of b n (nothing {A = T}) Open asked sent ≡ false → IsAtRest b m n asked sent
-inside {M} {T} b m shows n asked sent more picks rows = (by_waiting (b.waiting m n) refl, ((λ i l. ap (λ k. b.picks n i asked k) (sym is) ∙ picks i l), ap (λ k. b.rows n asked k) (sym is) ∙ second_false moves (b.rows n asked (min asked (sent + 0))) rows))
+inside {M} {T} b m shows n asked sent more picks rows =
+    let waits = by_waiting (b.waiting m n) refl in
+    let none = nothing_noted b m shows n waits in (
+      waits,
+      (
+        (λ i l. ap (λ k. b.picks n i asked k) (sym is) ∙ (sym (ap (λ k. pick_by k (b.picks n i asked (min asked (sent + 0))) moves i) none) ∙ picks i l)),
+        ap (λ k. b.rows n asked k) (sym is) ∙ second_false moves (b.rows n asked (min asked (sent + 0))) (sym (ap (λ k. row_by k (moves || b.rows n asked (min asked (sent + 0)))) none) ∙ rows),
+      ),
+    )
   where
     is : min asked (sent + 0) ≡ sent
     is = nothing_queued asked sent more
@@ -45,7 +50,10 @@ inside {M} {T} b m shows n asked sent more picks rows = (by_waiting (b.waiting m
     by_waiting None w = w
     by_waiting (Some s) w =
         let goes : moves ≡ true = ap (λ f. may_go f asked (min asked (sent + 0))) (shows n ∙ ap (option_map front_of) w) ∙ (ap (λ k. may_go (Some (front_of s)) asked k) is ∙ may_go_less (front_of s) asked sent more) in
-        absurd (both moves goes (first_false moves (b.rows n asked (min asked (sent + 0))) rows))
+        elim (moved_goes b n (nothing {A = T}) Open asked sent goes) [
+          | inl k ↦ absurd (both (pick_of b n (nothing {A = T}) Open 0 asked sent) k (picks 0 (omega arith)))
+          | inr k ↦ absurd (both (row_of b n (nothing {A = T}) Open asked sent) k rows)
+        ]
 
 -- ---- rest
 

@@ -43,9 +43,10 @@ impl<T: Drop> Machine for AnyNode<T> {
     ghost use Rattle.rsx_types.specs.Notes.{note_then};
     ghost use Rattle.rsx_sources.specs.Counts.{CountsIn, CountsOut, CountsStep};
     ghost use Rattle.rsx_sources.specs.Machine.{TakesIn, front_of};
+    ghost use Rattle.rsx_sources.specs.Popping.{IsPoppedBy, IsRecordedBy};
     ghost use Rattle.rsx_sources.specs.Reading.{IsReadOn, IsResidualOf, takes_published};
-    ghost use Rattle.rsx_sources.specs.Steps.{IsPopped, IsNotTaken, IsSameKind, StaysAlike};
-    ghost use Rattle.rsx_kinds.specs.Any.{any_comes_out, any_waiting, any_shown, any_takes, any_picks, any_rows, any_rowed, any_recording, any_recorded, any_ended, any_done, any_counted, any_wanted, any_popped, any_reads, any_rooms, any_pop_allocates, any_signal_allocates, any_step_allocates};
+    ghost use Rattle.rsx_sources.specs.Steps.{IsNotTaken, IsSameKind, StaysAlike};
+    ghost use Rattle.rsx_kinds.specs.Any.{any_comes_out, any_waiting, any_shown, any_takes, any_picks, any_rows, any_rowed, any_recording, any_recorded, any_popping, any_ended, any_done, any_counted, any_wanted, any_popped, any_reads, any_rooms, any_pop_allocates, any_signal_allocates, any_step_allocates};
     ghost use Rattle.rsx_kinds.specs.Laws.{any_shows, any_drops, any_ends, any_ends_reading, any_done_drops, any_settles, any_ending_waits, any_hungry, any_popped_alike};
     ghost use Rattle.rsx_kinds.specs.declared.any_node.AnyNode.{AnyNode};
 
@@ -66,6 +67,8 @@ impl<T: Drop> Machine for AnyNode<T> {
     ghost recording = { any_recording };
 
     ghost recorded = { any_recorded };
+
+    ghost popping = { any_popping };
 
     ghost ended = { any_ended };
 
@@ -111,8 +114,9 @@ impl<T: Drop> Machine for AnyNode<T> {
         ops: &O,
     ) -> Result<Option<Signal<T>>, NoMemory>
         ensures ok { IfOk result (λ s.
-            IsPopped (any_comes_out (O.meaning ops.now)) any_popped (any_waiting (O.meaning ops.now) self.old) self.old s self.new) }
-        ensures recorded { any_recorded self.new ≡ any_recorded self.old }
+            IsPoppedBy (any_comes_out (O.meaning ops.now)) any_popped any_recorded any_ended (any_popping self.old)
+            (any_waiting (O.meaning ops.now) self.old) self.old s self.new) }
+        ensures recorded { IsRecordedBy (any_popping self.old) (any_recorded self.old) (any_recorded self.new) }
         ensures counts { IfOk result (λ s. CountsOut any_counted any_ended any_done self.old s self.new) }
         ensures err { OnErr result (self.new ≡ self.old) }
         ensures memory { any_pop_allocates (O.allocates ops.now) self.old ≡ false → IsOk result }
@@ -128,6 +132,21 @@ impl<T: Drop> Machine for AnyNode<T> {
             AnyNode::FlatMap(node) => node.pop_front(alloc, ops),
             AnyNode::FlatMapDelay(node) => node.pop_front(alloc, ops),
             AnyNode::GroupBy(node) => node.pop_front(alloc, ops),
+        }
+    }
+
+    #[inline]
+    fn records_pop(&self) -> bool {
+        match self {
+            AnyNode::PublishOnEager(node) => node.records_pop(),
+            AnyNode::Source(_)
+            | AnyNode::Plain(_)
+            | AnyNode::Several(_)
+            | AnyNode::PublishOn(_)
+            | AnyNode::Window(_)
+            | AnyNode::FlatMap(_)
+            | AnyNode::FlatMapDelay(_)
+            | AnyNode::GroupBy(_) => false,
         }
     }
 

@@ -84,6 +84,8 @@ impl<N: Machine> Machine for Boxed<N> {
 
     ghost recorded = { N.recorded };
 
+    ghost popping = { N.popping };
+
     ghost ended = { N.ended };
 
     ghost done = { N.done };
@@ -118,6 +120,11 @@ impl<N: Machine> Machine for Boxed<N> {
         ops: &O,
     ) -> Result<Option<Signal<Self::Item>>, NoMemory> {
         self.node.pop_front(alloc, ops)
+    }
+
+    #[inline]
+    fn records_pop(&self) -> bool {
+        self.node.records_pop()
     }
 
     fn put_back(&mut self, signal: Signal<Self::Item>)

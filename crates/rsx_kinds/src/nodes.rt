@@ -31,8 +31,14 @@ impl<T: Drop> Nodes for TreeNode<T> {
         match self.node() {
             Sender::Direct(_) => Route::Straight,
             Sender::Crossing(queued) => {
-                let can_send = queued.can_transfer(edge.demand.asked, edge.demand.sent);
-                Route::Queued(edge.is_live() && can_send)
+                if !edge.is_live() || !queued.can_transfer(edge.demand.asked, edge.demand.sent) {
+                    return Route::Queued(false);
+                }
+                if queued.records_transfer() {
+                    Route::Recorded
+                } else {
+                    Route::Queued(true)
+                }
             }
         }
     }

@@ -98,6 +98,8 @@ impl<T: Drop> Machine for SeveralNode<T> {
 
     ghost recorded = { several_recorded };
 
+    ghost popping = { λ n. None };
+
     ghost ended = { several_ended };
 
     ghost done = { several_done };
@@ -144,6 +146,10 @@ impl<T: Drop> Machine for SeveralNode<T> {
             SeveralNode::Zip(node) => node.pop_front(alloc, ops),
             SeveralNode::Latest(node) => node.pop_front(alloc, ops),
         }
+    }
+
+    fn records_pop(&self) -> bool {
+        false
     }
 
     fn put_back(&mut self, signal: Signal<T>)

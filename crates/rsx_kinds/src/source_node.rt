@@ -21,7 +21,7 @@ pub enum SourceNode<T> {
 impl<T: Drop> Machine for SourceNode<T> {
     type Item = T;
 
-    ghost use Rattle.std.specs.Prelude.{◌≡◌, true, false, IfOk, IfErr, IsOk, OnOk, OnErr, Some};
+    ghost use Rattle.std.specs.Prelude.{◌≡◌, true, false, None, IfOk, IfErr, IsOk, OnOk, OnErr, Some};
     ghost use Rattle.rsx_types.specs.declared.note.Note.TheVariants.{Nothing};
     ghost use Rattle.rsx_sources.specs.Counts.{CountsOut, CountsStep};
     ghost use Rattle.rsx_sources.specs.Machine.{TakesIn};
@@ -49,6 +49,8 @@ impl<T: Drop> Machine for SourceNode<T> {
     ghost recording = { λ n i. Nothing };
 
     ghost recorded = { λ n. Nothing };
+
+    ghost popping = { λ n. None };
 
     ghost ended = { λ n. false };
 
@@ -99,6 +101,10 @@ impl<T: Drop> Machine for SourceNode<T> {
             SourceNode::Range(node) => node.pop_front(alloc, ops),
             SourceNode::Hub(node) => node.pop_front(alloc, ops),
         }
+    }
+
+    fn records_pop(&self) -> bool {
+        false
     }
 
     fn put_back(&mut self, signal: Signal<T>)

@@ -155,6 +155,8 @@ impl<T: Drop> Machine for ConcatNode<T> {
 
     ghost recorded = { λ n. Nothing };
 
+    ghost popping = { λ n. None };
+
     ghost ended = { concat_ended };
 
     ghost done = { concat_done };
@@ -193,6 +195,10 @@ impl<T: Drop> Machine for ConcatNode<T> {
         ensures memory { IsOk result }
     {
         Ok(self.output.pop())
+    }
+
+    fn records_pop(&self) -> bool {
+        false
     }
 
     fn put_back(&mut self, signal: Signal<T>)

@@ -197,6 +197,8 @@ impl<T: Drop> Machine for FlatMapNode<T> {
 
     ghost recorded = { flat_recorded };
 
+    ghost popping = { λ n. None };
+
     ghost ended = { flat_ended };
 
     ghost done = { flat_done };
@@ -236,6 +238,10 @@ impl<T: Drop> Machine for FlatMapNode<T> {
         ensures memory { IsOk result }
     {
         Ok(self.output.pop())
+    }
+
+    fn records_pop(&self) -> bool {
+        false
     }
 
     fn put_back(&mut self, signal: Signal<T>)

@@ -157,6 +157,8 @@ impl<T: Drop> Machine for MergeNode<T> {
 
     ghost recorded = { merge_recorded };
 
+    ghost popping = { λ n. None };
+
     ghost ended = { merge_ended };
 
     ghost done = { merge_done };
@@ -196,6 +198,10 @@ impl<T: Drop> Machine for MergeNode<T> {
         ensures memory { IsOk result }
     {
         Ok(self.output.pop())
+    }
+
+    fn records_pop(&self) -> bool {
+        false
     }
 
     fn put_back(&mut self, signal: Signal<T>)

@@ -103,6 +103,8 @@ impl<T: Drop> Machine for PublishOnNode<T> {
 
     ghost recorded = { λ n. Nothing };
 
+    ghost popping = { λ n. None };
+
     ghost ended = { publish_ended };
 
     ghost done = { λ n i. false };
@@ -147,6 +149,10 @@ impl<T: Drop> Machine for PublishOnNode<T> {
             Some(item) => Ok(Some(Signal::Next(item))),
             None => Ok(self.input.tail.take()),
         }
+    }
+
+    fn records_pop(&self) -> bool {
+        false
     }
 
     fn put_back(&mut self, signal: Signal<T>)

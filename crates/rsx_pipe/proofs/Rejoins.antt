@@ -1,5 +1,5 @@
 -- A part that is joined to what was cut off, where the lower part has sent its ending.
-use Rattle.std.proofs.Common.{◌≡◌, ℕ, true, false, List, [], ◌∷◌, ◌++◌, length, map, Option, Some, None, option_map, refl, ap, sym, ◌∙◌, subst, append_assoc}
+use Rattle.std.proofs.Common.{◌≡◌, ℕ, ◌+◌, slice_get, true, false, List, [], ◌∷◌, ◌++◌, length, map, Option, Some, None, option_map, refl, ap, sym, ◌∙◌, subst, append_assoc}
 use Rattle.std.specs.Prelude.{not}
 use Rattle.std.proofs.lemmas.Bool.{and_parts}
 use Rattle.std.proofs.lemmas.List.{append-nil}
@@ -13,25 +13,42 @@ use Rattle.rsx_pipe.proofs.Cuts.{cut_there, ended_row, holds_some, is_false, joi
 use Rattle.rsx_pipe.specs.Cutting.{can_join_in, can_take_back, held_in, is_end, place_at, with_node}
 use Rattle.rsx_pipe.specs.Part.{Part}
 use Rattle.rsx_pipe.specs.Rejoined.{JoinsAfterEnding, JoinsAtEnd, can_end_here, can_put_in, ending_in, put_node}
-use Rattle.rsx_sources.specs.Prelude.{Ending, LetsGo, Meaning, Next, Reading, Signal, Stream, reads_hub, signal_then, signals_then}
+use Rattle.rsx_sources.specs.Prelude.{Complete, Done, Ending, Error, Failed, LetsGo, Meaning, Next, Note, Open, Reading, Signal, Stream, ends_input, reads_hub, signal_then, signals_then}
 use Rattle.rsx_sources.specs.declared.machine.Machine.{Ghosts as Machine}
-use Rattle.rsx_tree.specs.Tree.{IsLetGo, comes_out}
+use Rattle.rsx_tree.proofs.Popped.{ending_gone}
+use Rattle.rsx_tree.proofs.Rows.{out_lets_go}
+use Rattle.rsx_tree.specs.Inputs.{comes_in, notes_of, out_of}
+use Rattle.rsx_tree.specs.Tree.{IsLetGo, comes_out, notes}
 use Rattle.rsx_tree.specs.declared.inputs.Inputs.{Inputs, End}
 use Rattle.rsx_tree.specs.declared.node.Node.{Node}
 
 first_same : {A : Type 0} (x y : A) (xs ys : List A) → x ∷ xs ≡ y ∷ ys → x ≡ y
 first_same x y xs ys h = cc
 
--- where a signal was let go, the node with the queue behind it gives the items, then that signal, and then what comes out now
-let_go_over : {M T : Type 0} (b : Machine M T) (m : Meaning T) (x : M) (q : List (Signal T)) (s : Signal T) (old new : Node M) → Holds b m x q old.machine → IsLetGo b m old s new → HoldsOver b m x (q ++ s ∷ []) new
-let_go_over {M} {T} b m x q s old new h l =
+-- an ending went out of the root of a tree, which recorded nothing by it
+pub ending_value : {M T : Type 0} (b : Machine M T) (m : Meaning T) (old : Node M) (s : Signal T) (new : Node M) → IsLetGo b m old s new → ends_input s ≡ true → (hubs : List (Stream T)) (further : List Note) (at : ℕ) → comes_out b m hubs further old at ≡ option_map (signal_then s) (comes_out b m hubs further new at)
+ending_value b m old s new l e hubs further at =
+    out_lets_go b m hubs old.machine new.machine s (ending_gone b m old s new l e).0 (comes_in b m hubs further old.inputs (at + 1)) (slice_get further at)
+    ∙ ap (λ i. option_map (signal_then s) (out_of b m hubs new.machine (comes_in b m hubs further i (at + 1)) (slice_get further at))) l.popped.1
+
+pub ending_notes : {M T : Type 0} (b : Machine M T) (m : Meaning T) (old : Node M) (s : Signal T) (new : Node M) → IsLetGo b m old s new → ends_input s ≡ true → notes b new ≡ notes b old
+ending_notes b m old s new l e = ap (λ k. k ∷ notes_of b new.inputs) (ending_gone b m old s new l e).1 ∙ ap (λ i. b.recorded old.machine ∷ notes_of b i) (sym l.popped.1)
+
+pub endings_end : {T : Type 0} (e : Ending) (s : Signal T) → endings e ≡ s ∷ [] → ends_input s ≡ true
+endings_end Open s h = cc
+endings_end Done s h = ap ends_input (sym (first_same Complete s [] [] h))
+endings_end (Failed c) s h = ap ends_input (sym (first_same (Error c) s [] [] h))
+
+-- where an ending was let go, the node with the queue behind it gives the items, then that ending, and then what comes out now
+let_go_over : {M T : Type 0} (b : Machine M T) (m : Meaning T) (x : M) (q : List (Signal T)) (s : Signal T) (old new : Node M) → Holds b m x q old.machine → ends_input s ≡ true → IsLetGo b m old s new → HoldsOver b m x (q ++ s ∷ []) new
+let_go_over {M} {T} b m x q s old new h ends l =
     let over = holds_over b m x q old h in
     let same : as_root x new ≡ as_root x old = ap (λ r. let n : Node M = record { machine = x; inputs = r } in n) (sym l.popped.1) in
     record {
       out = λ hubs g.
           ap (λ t. comes_out b m hubs g t 0) same
-          ∙ (over.out hubs g ∙ (ap (option_map (signals_then q)) (l.value hubs g 0) ∙ behind q (comes_out b m hubs g new 0)));
-      recorded = over.recorded ∙ sym (first_same _ _ _ _ l.notes);
+          ∙ (over.out hubs g ∙ (ap (option_map (signals_then q)) (ending_value b m old s new l ends hubs g 0) ∙ behind q (comes_out b m hubs g new 0)));
+      recorded = over.recorded ∙ sym (ending_gone b m old s new l ends).1;
     }
   where
     behind : (q : List (Signal T)) (o : Option (Stream T)) → option_map (signals_then q) (option_map (signal_then s) o) ≡ option_map (signals_then (q ++ s ∷ [])) o
@@ -42,7 +59,7 @@ pub after_ending : {M T : Type 0} (b : Machine M T) (crossing : CrossingNodes M 
     ((m : Meaning T) (q : List T) (n : M) → b.crosses n ≡ false → HoldsQueue b m (crossing.queued q n) q n) →
     ((m : Meaning T) (n : M) (items taken : List T) (others : List (Signal T)) (r : Reading) → crossing.held n ≡ Some items → b.reads n ≡ Some r → r.reached ≡ length taken → ReadsLink b m r.hub n (map Next taken ++ others) (map Next items ++ others)) →
     JoinsAfterEnding b crossing
-after_ending {M} {T} b crossing local holds_law reads_on m old new upper below lower ended at k reader queue items taken ending out went taken_above taken_below whole c none reads can reached sent gone free free' free_below adds nothing above under =
+after_ending {M} {T} b crossing local holds_law reads_on m old new upper below lower ended at k reader queue items taken ending out went taken_above taken_below whole c none reads can reached sent ends gone free free' free_below adds nothing above under =
     let there = cut_there b crossing old new below at reader queue c in
     let parts = and_parts (not (b.crosses lower.tree.machine)) _ can in
     let straight = is_false (b.crosses lower.tree.machine) parts.0 in
@@ -68,7 +85,7 @@ after_ending {M} {T} b crossing local holds_law reads_on m old new upper below l
       leaf_is = reads_at b m crossing (reads_on m) k reader [] [] (map Next queue) none reads;
       leaf_is' = subst H all (subst S sent (reads_at b m crossing (reads_on m) k leaf held taken (map Next items ++ ending ∷ []) held_is reached.reads));
       holds = holds_over b m x (map Next queue) below.tree (holds_law m queue below.tree.machine c.straight).holds;
-      holds' = let_go_over b m x' (map Next (held ++ items)) ending lower.tree ended.tree (holds_law m (held ++ items) lower.tree.machine straight).holds gone;
+      holds' = let_go_over b m x' (map Next (held ++ items)) ending lower.tree ended.tree (holds_law m (held ++ items) lower.tree.machine straight).holds ends gone;
       free = subst R c.whole free;
       free' = subst J gone.popped.1 free';
       free_below = free_below;
@@ -107,7 +124,7 @@ at_end {M} {T} b crossing local holds_law ends_law reads_on reads_ended m old ne
     let end_is : ending_in crossing (place_at at upper.tree) ≡ e = ap (ending_in crossing) there_is ∙ ap ending_of read_to in
     let signals = map Next (held ++ []) ++ ending ∷ [] in
     let E : Ending → Type 0 = λ z. HoldsEnding b m (crossing.ended_queue z (held ++ []) ended.tree.machine) signals ended.tree.machine in
-    let over : HoldsEnding b m x' signals ended.tree.machine = subst E (sym end_is) (ends_law m e (held ++ []) ending lower.tree.machine ended.tree.machine straight last gone.offered gone.lets_go) in
+    let over : HoldsEnding b m x' signals ended.tree.machine = subst E (sym end_is) (ends_law m e (held ++ []) ending lower.tree.machine ended.tree.machine straight last gone.offered (ending_gone b m lower.tree ending ended.tree gone (endings_end e ending last)).0) in
     let H : List (Signal T) → Type 0 = λ l. ReadsLink b m k leaf (map Next queue ++ out) l in
     let R : Node M → Type 0 = λ t. ReadsNot b k t in
     let between : IsCutBetween b m k (with_node at x below.tree.inputs old.tree) (with_node at x' ended.tree.inputs upper.tree) below.tree ended.tree reader leaf x x' (map Next queue) came [] signals out = record {

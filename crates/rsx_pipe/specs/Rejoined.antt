@@ -4,7 +4,7 @@ use Rattle.rsx_rooted.specs.Local.{ReadsNot}
 use Rattle.rsx_rooted.specs.Regions.{Adds, Carries}
 use Rattle.rsx_rooted.specs.Cutting.{ending_of, endings, is_some}
 use Rattle.rsx_rooted.specs.declared.nodes.CrossingNodes.{Ghosts as CrossingNodes}
-use Rattle.rsx_sources.specs.Prelude.{Ending, Open, Meaning, Next, Signal, Stream}
+use Rattle.rsx_sources.specs.Prelude.{Ending, Open, Meaning, Next, Signal, Stream, ends_input}
 use Rattle.rsx_sources.specs.declared.machine.Machine.{Ghosts as Machine}
 use Rattle.rsx_tree.specs.declared.inputs.Inputs.{Inputs}
 use Rattle.rsx_tree.specs.Tree.{IsLetGo}
@@ -62,7 +62,7 @@ JoinsAfterEnding {M} {T} b crossing =
     (m : Meaning T) (old new upper below lower ended : Part M) (at k : ℕ) (reader : M) (queue items taken : List T) (ending : Signal T) (out went : List (Signal T)) (taken_above taken_below whole : List (Stream T)) →
     IsCut b crossing old at reader below queue new → crossing.held reader ≡ Some [] → ReadsAt b k 0 reader →
     can_join b crossing upper at k lower.tree.machine items ≡ true → HasReached b upper at k (length taken) →
-    map Next taken ++ (map Next items ++ ending ∷ []) ≡ map Next queue ++ out → IsLetGo b m lower.tree ending ended.tree →
+    map Next taken ++ (map Next items ++ ending ∷ []) ≡ map Next queue ++ out → ends_input ending ≡ true → IsLetGo b m lower.tree ending ended.tree →
     ReadsNot b k old.tree → ReadsNot b k (joined crossing upper at lower items).tree → ReadsNot b k ended.tree →
     Adds taken_above whole k (map Next taken) → Adds taken_below whole k [] →
     Carries b m taken_above new.tree upper.tree went → Carries b m taken_below below.tree ended.tree out →

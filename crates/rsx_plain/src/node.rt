@@ -83,6 +83,8 @@ impl<T: Drop> Machine for PlainNode<T> {
 
     ghost recorded = { λ n. Nothing };
 
+    ghost popping = { λ n. None };
+
     ghost ended = { plain_ended };
 
     ghost done = { λ n i. false };
@@ -132,6 +134,10 @@ impl<T: Drop> Machine for PlainNode<T> {
             Some(signal) => Ok(Some(signal)),
             None => Ok(None),
         }
+    }
+
+    fn records_pop(&self) -> bool {
+        false
     }
 
     #[inline]

@@ -1,12 +1,11 @@
 -- A node of one of two kinds makes the batches that its kind makes.
 use Rattle.std.proofs.Common.{Bool, true, false, List, ℕ, inl, inr}
 use Rattle.rsx_rooted.proofs.OneByOne.{passed_in, popped_in}
-use Rattle.rsx_rooted.specs.Items.{ArePassed, ArePopped, IsIn, IsOutBy}
+use Rattle.rsx_rooted.specs.Items.{ArePassed, ArePopped, IsIn, IsOut, IsOutBy}
 use Rattle.rsx_rooted.specs.declared.batch.Noted.{Noted}
 use Rattle.rsx_sources.specs.Prelude.{Meaning}
 use Rattle.rsx_sources.specs.declared.machine.Machine.{Ghosts as Machine}
 use Rattle.rsx_sources.specs.declared.machine.Passed.TheVariants.{Kept}
-use Rattle.rsx_tree.specs.Fetched.{IsOut}
 use Rattle.rsx_tree.specs.Stepped.{IsStepOf}
 use Rattle.rsx_processor.specs.Either.{OfOneKind, either}
 use Rattle.rsx_processor.specs.declared.either.EitherNode.{EitherNode}
@@ -17,13 +16,13 @@ left_in : {A B T : Type 0} (a : Machine A T) (b : Machine B T) (m : Meaning T) (
 left_in a b m i s x t h = (left_passed a b m s t i x Kept h.0, h.1)
 
 left_out : {A B T : Type 0} (a : Machine A T) (b : Machine B T) (m : Meaning T) (s : A) (x : T) (t : A) → IsOut a m s x t → IsOut (either a b) m (Left s) x (Left t)
-left_out a b m s x t h = (record { waited = h.0.waited; popped_out = h.0.popped_out; value = h.0.value; notes = h.0.notes; counts = h.0.counts }, h.1)
+left_out a b m s x t h = (record { waited = h.0.waited; popped_out = h.0.popped_out; value = h.0.value; notes = h.0.notes; counts = h.0.counts }, h.1, h.2)
 
 right_in : {A B T : Type 0} (a : Machine A T) (b : Machine B T) (m : Meaning T) (i : ℕ) (s : B) (x : T) (t : B) → IsIn b m i s x t → IsIn (either a b) m i (Right s) x (Right t)
 right_in a b m i s x t h = (right_passed a b m s t i x Kept h.0, h.1)
 
 right_out : {A B T : Type 0} (a : Machine A T) (b : Machine B T) (m : Meaning T) (s : B) (x : T) (t : B) → IsOut b m s x t → IsOut (either a b) m (Right s) x (Right t)
-right_out a b m s x t h = (record { waited = h.0.waited; popped_out = h.0.popped_out; value = h.0.value; notes = h.0.notes; counts = h.0.counts }, h.1)
+right_out a b m s x t h = (record { waited = h.0.waited; popped_out = h.0.popped_out; value = h.0.value; notes = h.0.notes; counts = h.0.counts }, h.1, h.2)
 
 left_step : {A B T : Type 0} (a : Machine A T) (b : Machine B T) (m : Meaning T) (s : A) (asked sent : ℕ) (t : A) → IsStepOf a m s asked sent t → IsStepOf (either a b) m (Left s) asked sent (Left t)
 left_step a b m s asked sent t (inl p) =

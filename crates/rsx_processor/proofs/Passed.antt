@@ -1,6 +1,6 @@
 -- An item goes through a node of one of two kinds as through its kind.
-use Rattle.std.proofs.Common.{ap, ℕ, Option, Some, None, inl, inr}
-use Rattle.rsx_sources.specs.Prelude.{IsItemOut, IsPassed, IsStepDone, IsSteppedOut, IsTakenIn, Meaning, Next}
+use Rattle.std.proofs.Common.{ap, ℕ, Option, Some, None, IfSome, Result, Ok, Err, IfOk, inl, inr}
+use Rattle.rsx_sources.specs.Prelude.{IsItemOut, IsItemOutBy, IsPassed, IsPoppedBy, IsPoppedNoting, IsStepDone, IsSteppedOut, IsTakenIn, Meaning, Next, NoMemory, Note, Signal}
 use Rattle.rsx_sources.specs.declared.machine.Machine.{Ghosts as Machine}
 use Rattle.rsx_sources.specs.declared.machine.Passed.{Passed}
 use Rattle.rsx_sources.specs.declared.machine.Passed.TheVariants.{Item, Kept, Declined}
@@ -74,3 +74,75 @@ right_passed a b m old new i x (Declined y) h = (h.0, ap Right h.1)
 pub right_stepped_out : {A B T : Type 0} (a : Machine A T) (b : Machine B T) (m : Meaning T) (old new : B) (asked sent : ℕ) (o : Option T) → IsStepGone b m old asked sent o new → IsStepGone (either a b) m (Right old) asked sent o (Right new)
 right_stepped_out a b m old new asked sent (Some x) h = (Right h.0, right_step a b m old h.0 asked sent h.1, right_out a b m h.0 new x h.2)
 right_stepped_out a b m old new asked sent None h = ap Right h
+
+-- ---- a signal that goes out of a node that may record it
+
+-- the same of a signal that waits in a node of the first kind, recorded or not
+left_noting : {A B T : Type 0} (a : Machine A T) (b : Machine B T) (m : Meaning T) (n : Note) (w : Option (Signal T)) (old : A) (s : Signal T) (new : A) → IsPoppedNoting (a.comes_out m) a.popped a.recorded a.ended n w old s new →
+    IsPoppedNoting ((either a b).comes_out m) (either a b).popped (either a b).recorded (either a b).ended n w (Left old) s (Left new)
+left_noting a b m n w old s new h = record {
+  waited = h.waited;
+  item = h.item;
+  popped_out = h.popped_out;
+  ready = Left h.ready;
+  noted = let r = h.noted in record { value = r.value; notes = r.notes; composes = r.composes; goes_on = r.goes_on };
+  value = h.value;
+  notes = h.notes;
+}
+
+left_popped : {A B T : Type 0} (a : Machine A T) (b : Machine B T) (m : Meaning T) (p : Option Note) (w : Option (Signal T)) (old : A) (o : Option (Signal T)) (new : A) → IsPoppedBy (a.comes_out m) a.popped a.recorded a.ended p w old o new →
+    IsPoppedBy ((either a b).comes_out m) (either a b).popped (either a b).recorded (either a b).ended p w (Left old) o (Left new)
+left_popped a b m None w old None new h = (h.0, ap Left h.1)
+left_popped a b m None w old (Some s) new h = h
+left_popped a b m (Some k) w old None new h = (h.0, ap Left h.1)
+left_popped a b m (Some k) w old (Some s) new h = left_noting a b m k w old s new h
+
+pub left_popped_result : {A B T : Type 0} (a : Machine A T) (b : Machine B T) (m : Meaning T) (p : Option Note) (w : Option (Signal T)) (old new : A) (r : Result (Option (Signal T)) NoMemory) → IfOk r (λ o. IsPoppedBy (a.comes_out m) a.popped a.recorded a.ended p w old o new) →
+    IfOk r (λ o. IsPoppedBy ((either a b).comes_out m) (either a b).popped (either a b).recorded (either a b).ended p w (Left old) o (Left new))
+left_popped_result a b m p w old new (Ok o) h = left_popped a b m p w old o new h
+left_popped_result a b m p w old new (Err e) h = tt
+
+left_item : {A B T : Type 0} (a : Machine A T) (b : Machine B T) (m : Meaning T) (p : Option Note) (old : A) (x : T) (new : A) → IsItemOutBy (a.comes_out m) (a.waiting m) a.popped a.recorded a.counted a.ended a.done p old x new →
+    IsItemOutBy ((either a b).comes_out m) ((either a b).waiting m) (either a b).popped (either a b).recorded (either a b).counted (either a b).ended (either a b).done p (Left old) x (Left new)
+left_item a b m None old x new h = left_out a b m old new x h
+left_item a b m (Some k) old x new h = (left_noting a b m k (a.waiting m old) old (Next x) new h.0, h.1)
+
+pub left_item_result : {A B T : Type 0} (a : Machine A T) (b : Machine B T) (m : Meaning T) (p : Option Note) (old new : A) (r : Option T) → IfSome r (λ x. IsItemOutBy (a.comes_out m) (a.waiting m) a.popped a.recorded a.counted a.ended a.done p old x new) →
+    IfSome r (λ x. IsItemOutBy ((either a b).comes_out m) ((either a b).waiting m) (either a b).popped (either a b).recorded (either a b).counted (either a b).ended (either a b).done p (Left old) x (Left new))
+left_item_result a b m p old new (Some x) h = left_item a b m p old x new h
+left_item_result a b m p old new None h = tt
+
+-- the same of a signal that waits in a node of the second kind, recorded or not
+right_noting : {A B T : Type 0} (a : Machine A T) (b : Machine B T) (m : Meaning T) (n : Note) (w : Option (Signal T)) (old : B) (s : Signal T) (new : B) → IsPoppedNoting (b.comes_out m) b.popped b.recorded b.ended n w old s new →
+    IsPoppedNoting ((either a b).comes_out m) (either a b).popped (either a b).recorded (either a b).ended n w (Right old) s (Right new)
+right_noting a b m n w old s new h = record {
+  waited = h.waited;
+  item = h.item;
+  popped_out = h.popped_out;
+  ready = Right h.ready;
+  noted = let r = h.noted in record { value = r.value; notes = r.notes; composes = r.composes; goes_on = r.goes_on };
+  value = h.value;
+  notes = h.notes;
+}
+
+right_popped : {A B T : Type 0} (a : Machine A T) (b : Machine B T) (m : Meaning T) (p : Option Note) (w : Option (Signal T)) (old : B) (o : Option (Signal T)) (new : B) → IsPoppedBy (b.comes_out m) b.popped b.recorded b.ended p w old o new →
+    IsPoppedBy ((either a b).comes_out m) (either a b).popped (either a b).recorded (either a b).ended p w (Right old) o (Right new)
+right_popped a b m None w old None new h = (h.0, ap Right h.1)
+right_popped a b m None w old (Some s) new h = h
+right_popped a b m (Some k) w old None new h = (h.0, ap Right h.1)
+right_popped a b m (Some k) w old (Some s) new h = right_noting a b m k w old s new h
+
+pub right_popped_result : {A B T : Type 0} (a : Machine A T) (b : Machine B T) (m : Meaning T) (p : Option Note) (w : Option (Signal T)) (old new : B) (r : Result (Option (Signal T)) NoMemory) → IfOk r (λ o. IsPoppedBy (b.comes_out m) b.popped b.recorded b.ended p w old o new) →
+    IfOk r (λ o. IsPoppedBy ((either a b).comes_out m) (either a b).popped (either a b).recorded (either a b).ended p w (Right old) o (Right new))
+right_popped_result a b m p w old new (Ok o) h = right_popped a b m p w old o new h
+right_popped_result a b m p w old new (Err e) h = tt
+
+right_item : {A B T : Type 0} (a : Machine A T) (b : Machine B T) (m : Meaning T) (p : Option Note) (old : B) (x : T) (new : B) → IsItemOutBy (b.comes_out m) (b.waiting m) b.popped b.recorded b.counted b.ended b.done p old x new →
+    IsItemOutBy ((either a b).comes_out m) ((either a b).waiting m) (either a b).popped (either a b).recorded (either a b).counted (either a b).ended (either a b).done p (Right old) x (Right new)
+right_item a b m None old x new h = right_out a b m old new x h
+right_item a b m (Some k) old x new h = (right_noting a b m k (b.waiting m old) old (Next x) new h.0, h.1)
+
+pub right_item_result : {A B T : Type 0} (a : Machine A T) (b : Machine B T) (m : Meaning T) (p : Option Note) (old new : B) (r : Option T) → IfSome r (λ x. IsItemOutBy (b.comes_out m) (b.waiting m) b.popped b.recorded b.counted b.ended b.done p old x new) →
+    IfSome r (λ x. IsItemOutBy ((either a b).comes_out m) ((either a b).waiting m) (either a b).popped (either a b).recorded (either a b).counted (either a b).ended (either a b).done p (Right old) x (Right new))
+right_item_result a b m p old new (Some x) h = right_item a b m p old x new h
+right_item_result a b m p old new None h = tt

@@ -28,6 +28,7 @@ either a b = record {
   rowed = λ old asked sent new. OfOneKind (λ x y. a.rowed x asked sent y) (λ x y. b.rowed x asked sent y) old new;
   recording = by_kind a.recording b.recording;
   recorded = by_kind a.recorded b.recorded;
+  popping = by_kind a.popping b.popping;
   ended = by_kind a.ended b.ended;
   done = by_kind a.done b.done;
   counted = by_kind a.counted b.counted;

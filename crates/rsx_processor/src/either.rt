@@ -44,6 +44,8 @@ impl<A: Machine, B: Machine<Item = A::Item>> Machine for EitherNode<A, B> {
 
     ghost recorded = { (either A.Machine B.Machine).recorded };
 
+    ghost popping = { (either A.Machine B.Machine).popping };
+
     ghost ended = { (either A.Machine B.Machine).ended };
 
     ghost done = { (either A.Machine B.Machine).done };
@@ -82,6 +84,14 @@ impl<A: Machine, B: Machine<Item = A::Item>> Machine for EitherNode<A, B> {
         match self {
             EitherNode::Left(node) => node.pop_front(alloc, ops),
             EitherNode::Right(node) => node.pop_front(alloc, ops),
+        }
+    }
+
+    #[inline]
+    fn records_pop(&self) -> bool {
+        match self {
+            EitherNode::Left(node) => node.records_pop(),
+            EitherNode::Right(node) => node.records_pop(),
         }
     }
 

@@ -86,6 +86,8 @@ impl<P: Processor<Item = T>, T: Drop> Machine for ProcessorNode<P, T> {
 
     ghost recorded = { λ n. Nothing };
 
+    ghost popping = { λ n. None };
+
     ghost ended = { node_ended };
 
     ghost done = { λ n i. false };
@@ -123,6 +125,10 @@ impl<P: Processor<Item = T>, T: Drop> Machine for ProcessorNode<P, T> {
         ops: &O,
     ) -> Result<Option<Signal<T>>, NoMemory> {
         Ok(self.slot.take())
+    }
+
+    fn records_pop(&self) -> bool {
+        false
     }
 
     fn put_back(&mut self, signal: Signal<T>)

@@ -4,7 +4,7 @@ use Rattle.rsx_sources.specs.Prelude.{Signal, Meaning, CountsIn, CountsStep, IsP
 use Rattle.rsx_sources.specs.declared.machine.Machine.{Ghosts as Machine}
 use Rattle.rsx_sources.specs.declared.machine.Passed.{Passed}
 use Rattle.rsx_queued.specs.declared.queued.Queued.{Queued}
-use Rattle.rsx_queued.specs.Queued.{queued_comes_out, queued_waiting, queued_takes, queued_picks, queued_rows, queued_popped, queued_counted, queued_ended, queued_done}
+use Rattle.rsx_queued.specs.Queued.{queued_comes_out, queued_waiting, queued_takes, queued_picks, queued_rows, queued_recording, queued_popped, queued_counted, queued_ended, queued_done}
 use Rattle.rsx_queued.specs.Transfer.{IsQueuedRow}
 
 -- ---- the node inside
@@ -31,4 +31,4 @@ QueuedPassed b m old i x result new =
 -- a step of a node with its queue, whose item goes out at once
 abbrev pub QueuedSteppedOut : {M T : Type 0} → Machine M T → Meaning T → Queued M T → ℕ → ℕ → Option T → Queued M T → Type 0
 QueuedSteppedOut b m old asked taken result new =
-    IsSteppedOut (queued_comes_out b m) (queued_waiting m) (queued_picks b) (queued_rows b) (IsQueuedRow b) queued_popped (λ n i. b.recording n.node i) (λ n. b.recorded n.node) (queued_counted b) (queued_ended b) (queued_done b) old asked taken result new
+    IsSteppedOut (queued_comes_out b m) (queued_waiting m) (queued_picks b) (queued_rows b) (IsQueuedRow b) queued_popped (queued_recording b) (λ n. b.recorded n.node) (queued_counted b) (queued_ended b) (queued_done b) old asked taken result new

@@ -1,5 +1,5 @@
 -- A node with the queue of the edge from it to another region.
-use Rattle.std.specs.Prelude.{◌≡◌, ℕ, ◌+◌, ◌<◌, Bool, true, false, ◌&&◌, ◌||◌, nat_lt, min, List, [], ◌∷◌, length, Option, Some, None, option_map}
+use Rattle.std.specs.Prelude.{◌≡◌, ℕ, ◌+◌, ◌<◌, Bool, true, false, ◌&&◌, ◌||◌, nat_eq, nat_lt, min, List, [], ◌∷◌, length, Option, Some, None, option_map}
 use Rattle.rsx_sources.specs.Prelude.{CAPACITY, Note, Signal, Next, Complete, Error, Meaning, Allocates, Stream, CountsIn, CountsStep, Incoming, StaysAlike, Reading, takes_published}
 use Rattle.rsx_sources.specs.declared.machine.Front.{Front}
 use Rattle.rsx_sources.specs.declared.machine.Front.TheVariants.{Item, Completion as CompletionFront, Failure as FailureFront}
@@ -65,16 +65,45 @@ can_move f q t asked taken = is_open t && (nat_lt (length q) CAPACITY && may_go 
 abbrev pub can_transfer : {M T : Type 0} → Machine M T → Queued M T → ℕ → ℕ → Bool
 can_transfer b n asked taken = can_move (b.shown n.node) n.queue n.tail asked taken
 
--- a pick of the node
+-- what a pop records, where something is shown
+abbrev pub note_of_shown : Option Note → Option Front → Option Note
+note_of_shown None f = None
+note_of_shown (Some k) None = None
+note_of_shown (Some k) (Some f) = Some k
+
+-- what the signal that the node offers adds to what the node recorded as it goes over the edge, if anything
+abbrev pub pop_note : {M T : Type 0} → Machine M T → M → Option Note
+pop_note b n = note_of_shown (b.popping n) (b.shown n)
+
+-- Whether input i can be picked. The Send over the edge is a pick of input 0 where it is recorded, since a row records nothing; then
+-- nothing else can be picked.
+abbrev pub pick_by : Option Note → Bool → Bool → ℕ → Bool
+pick_by None picks moves i = picks
+pick_by (Some k) picks moves i = nat_eq i 0 && moves
+
+-- whether a row can be made: none where the Send over the edge is recorded
+abbrev pub row_by : Option Note → Bool → Bool
+row_by None rows = rows
+row_by (Some k) rows = false
+
+-- what a pick records: the Send over the edge, or the pick of the node
+abbrev pub recording_by : Option Note → Note → Note
+recording_by None picked = picked
+recording_by (Some k) picked = k
+
+-- a pick of the node, or the Send over the edge where that is recorded
 abbrev pub pick_of : {M T : Type 0} → Machine M T → M → List T → Tail → ℕ → ℕ → ℕ → Bool
-pick_of b n q t i asked taken = is_open t && b.picks n i asked (node_sent q asked taken)
+pick_of b n q t i asked taken = pick_by (pop_note b n) (is_open t && b.picks n i asked (node_sent q asked taken)) (can_move (b.shown n) q t asked taken) i
 
 abbrev pub queued_picks : {M T : Type 0} → Machine M T → Queued M T → ℕ → ℕ → ℕ → Bool
 queued_picks b n i asked taken = pick_of b n.node n.queue n.tail i asked taken
 
--- a row of the node with its queue is the Send over the edge, or else a row of the node
+abbrev pub queued_recording : {M T : Type 0} → Machine M T → Queued M T → ℕ → Note
+queued_recording b n i = recording_by (pop_note b n.node) (b.recording n.node i)
+
+-- a row of a node with its queue is the Send over the edge that isn't recorded, or else a row of the node
 abbrev pub row_of : {M T : Type 0} → Machine M T → M → List T → Tail → ℕ → ℕ → Bool
-row_of b n q t asked taken = can_move (b.shown n) q t asked taken || (is_open t && b.rows n asked (node_sent q asked taken))
+row_of b n q t asked taken = row_by (pop_note b n) (can_move (b.shown n) q t asked taken || (is_open t && b.rows n asked (node_sent q asked taken)))
 
 abbrev pub queued_rows : {M T : Type 0} → Machine M T → Queued M T → ℕ → ℕ → Bool
 queued_rows b n asked taken = row_of b n.node n.queue n.tail asked taken
@@ -129,7 +158,7 @@ queued_takes_published b n s = takes_published (queued_reads b n) (queued_rooms 
 abbrev pub queued_allocates : {M T : Type 0} → Machine M T → Allocates → Queued M T → Bool
 queued_allocates b a n = b.signal_allocates a n.node
 
--- a row takes a signal out of the node, or is one of the node; a pick is one of the node
+-- a row or a pick takes a signal out of the node, or is one of the node
 abbrev pub queued_step_allocates : {M T : Type 0} → Machine M T → Allocates → Queued M T → Bool
 queued_step_allocates b a n = b.pop_allocates a n.node || b.step_allocates a n.node
 

@@ -1,5 +1,5 @@
 -- A node with its queue keeps the laws of a node, where the node inside does.
-use Rattle.std.specs.Prelude.{◌≡◌, ℕ, ◌+◌, ◌<◌, Bool, true, false, ◌&&◌, ◌||◌, nat_lt, min, List, [], ◌∷◌, ◌++◌, length, Option, Some, None, option_map, refl}
+use Rattle.std.specs.Prelude.{◌≡◌, ℕ, ◌+◌, ◌<◌, ◌^◌, Bool, true, false, ◌&&◌, ◌||◌, ◌⊎◌, nat_lt, min, List, [], ◌∷◌, ◌++◌, length, Option, Some, None, option_map, refl}
 use Rattle.std.proofs.Common.{inl, inr, sym, ap, ◌∙◌, subst, arith}
 use Rattle.std.proofs.lemmas.Bool.Decides.{nat_tests}
 use Rattle.rsx_sources.specs.Prelude.{Note, Signal, Next, Complete, Error, Meaning, unchosen, Stream, AreWithin, CanStep, IsHungry, ends_input, Incoming, front_of, incoming_of}
@@ -10,7 +10,7 @@ use Rattle.rsx_queued.specs.declared.queued.Queued.{Queued}
 use Rattle.rsx_queued.specs.declared.tail.Tail.{Tail}
 use Rattle.rsx_queued.specs.declared.tail.Tail.TheVariants.{Open, Completion, Failure, Taken}
 use Rattle.rsx_queued.specs.Held.{is_open, held_then, first_held, first_shown, comes_in_at}
-use Rattle.rsx_queued.specs.Queued.{out, queued_comes_out, queued_waiting, queued_shown, queued_takes, queued_picks, queued_rows, queued_ended, queued_done, queued_counted, queued_wanted, queued_popped, QueuedAlike, node_sent, may_go, can_move, pick_of, row_of, is_ended, ended_in, queued_reads, reads_in}
+use Rattle.rsx_queued.specs.Queued.{out, queued_comes_out, queued_waiting, queued_shown, queued_takes, queued_picks, queued_rows, queued_ended, queued_done, queued_counted, queued_wanted, queued_popped, QueuedAlike, node_sent, may_go, can_move, note_of_shown, pop_note, pick_by, row_by, pick_of, row_of, is_ended, ended_in, queued_reads, reads_in}
 
 -- ---- the laws of the node inside
 
@@ -138,32 +138,71 @@ abbrev nothing : {A : Type 0} → List A
 nothing = []
 
 -- the node offers a signal, and the queue is empty
-offered_goes : {M T : Type 0} (b : Machine M T) (m : Meaning T) → Shows b m → (n : M) (asked taken : ℕ) (s : Signal T) → b.waiting m n ≡ Some s → taken < asked → row_of b n (nothing {A = T}) Open asked taken ≡ true
+offered_goes : {M T : Type 0} (b : Machine M T) (m : Meaning T) → Shows b m → (n : M) (asked taken : ℕ) (s : Signal T) → b.waiting m n ≡ Some s → taken < asked → can_move (b.shown n) (nothing {A = T}) Open asked taken ≡ true
 offered_goes {M} {T} b m shows n asked taken s w l =
     let sent : min asked (taken + 0) < asked = subst (λ k. k < asked) (sym (nothing_queued asked taken l)) l in
-    let goes : may_go (b.shown n) asked (min asked (taken + 0)) ≡ true = ap (λ f. may_go f asked (min asked (taken + 0))) (shows n ∙ ap (option_map front_of) w) ∙ may_go_less (front_of s) asked (min asked (taken + 0)) sent in
-    first_true (can_move (b.shown n) (nothing {A = T}) Open asked taken) (b.rows n asked (min asked (taken + 0))) goes
+    ap (λ f. may_go f asked (min asked (taken + 0))) (shows n ∙ ap (option_map front_of) w) ∙ may_go_less (front_of s) asked (min asked (taken + 0)) sent
 
-offered_moves : {M T : Type 0} (b : Machine M T) (m : Meaning T) → Shows b m → (n : M) (q : List T) (t : Tail) (asked taken : ℕ) (s : Signal T) → t ≡ Open → q ≡ [] → b.waiting m n ≡ Some s → taken < asked → row_of b n q t asked taken ≡ true
+-- the Send over the edge: a pick of input 0 where it is recorded, else a row
+abbrev pub Goes : {M T : Type 0} → Machine M T → M → List T → Tail → ℕ → ℕ → Type 0
+Goes b n q t asked taken = (pick_of b n q t 0 asked taken ≡ true) ⊎ (row_of b n q t asked taken ≡ true)
+
+pub moved_goes : {M T : Type 0} (b : Machine M T) (n : M) (q : List T) (t : Tail) (asked taken : ℕ) → can_move (b.shown n) q t asked taken ≡ true → Goes b n q t asked taken
+moved_goes b n q t asked taken can = by_note (pop_note b n) refl
+  where
+    picks : Bool
+    picks = is_open t && b.picks n 0 asked (node_sent q asked taken)
+
+    rows : Bool
+    rows = is_open t && b.rows n asked (node_sent q asked taken)
+
+    moves : Bool
+    moves = can_move (b.shown n) q t asked taken
+
+    by_note : (k : Option Note) → pop_note b n ≡ k → Goes b n q t asked taken
+    by_note None e = inr (ap (λ k. row_by k (moves || rows)) e ∙ first_true moves rows can)
+    by_note (Some k) e = inl (ap (λ k. pick_by k picks moves 0) e ∙ can)
+
+offered_moves : {M T : Type 0} (b : Machine M T) (m : Meaning T) → Shows b m → (n : M) (q : List T) (t : Tail) (asked taken : ℕ) (s : Signal T) → t ≡ Open → q ≡ [] → b.waiting m n ≡ Some s → taken < asked → Goes b n q t asked taken
 offered_moves b m shows n q t asked taken s o e w l =
-    ap (λ k. row_of b n q k asked taken) o ∙ (ap (λ k. row_of b n k Open asked taken) e ∙ offered_goes b m shows n asked taken s w l)
+    moved_goes b n q t asked taken (ap (λ k. can_move (b.shown n) q k asked taken) o ∙ (ap (λ k. can_move (b.shown n) k Open asked taken) e ∙ offered_goes b m shows n asked taken s w l))
 
--- a step of the node is one of the node with its queue
-pick_stays : {M T : Type 0} (b : Machine M T) (n : M) (q : List T) (t : Tail) (i asked taken : ℕ) → t ≡ Open → q ≡ [] → taken < asked → b.picks n i asked taken ≡ true → pick_of b n q t i asked taken ≡ true
-pick_stays b n q t i asked taken o e l h =
-    ap (λ k. pick_of b n q k i asked taken) o ∙ (ap (λ k. pick_of b n k Open i asked taken) e ∙ (ap (λ k. b.picks n i asked k) (nothing_queued asked taken l) ∙ h))
+-- where the node offers nothing, nothing goes over the edge that could be recorded
+unshown : (k : Option Note) (f : Option Front) → f ≡ None → note_of_shown k f ≡ None
+unshown None f e = refl
+unshown (Some k) f e = ap (note_of_shown (Some k)) e
 
-row_stays : {M T : Type 0} (b : Machine M T) (n : M) (q : List T) (t : Tail) (asked taken : ℕ) → t ≡ Open → q ≡ [] → taken < asked → b.rows n asked taken ≡ true → row_of b n q t asked taken ≡ true
-row_stays {M} {T} b n q t asked taken o e l h =
-    ap (λ k. row_of b n q k asked taken) o
-    ∙ (ap (λ k. row_of b n k Open asked taken) e
-    ∙ second_true (can_move (b.shown n) (nothing {A = T}) Open asked taken) (b.rows n asked (min asked (taken + 0))) (ap (λ k. b.rows n asked k) (nothing_queued asked taken l) ∙ h))
+pub nothing_noted : {M T : Type 0} (b : Machine M T) (m : Meaning T) → Shows b m → (n : M) → b.waiting m n ≡ None → pop_note b n ≡ None
+nothing_noted b m shows n w = unshown (b.popping n) (b.shown n) (shows n ∙ ap (option_map front_of) w)
 
-steps : {M T : Type 0} (b : Machine M T) (n : Queued M T) (asked taken : ℕ) → n.tail ≡ Open → n.queue ≡ [] → taken < asked → CanStep b.picks b.rows n.node asked taken → CanStep (queued_picks b) (queued_rows b) n asked taken
-steps b n asked taken o e l can = elim can [
-  | inl k ↦ inl (k.0, k.1, pick_stays b n.node n.queue n.tail k.0 asked taken o e l k.2)
-  | inr k ↦ inr (row_stays b n.node n.queue n.tail asked taken o e l k)
+-- a step of the node is one of the node with its queue, where no signal is recorded as it goes over the edge
+pick_stays : {M T : Type 0} (b : Machine M T) (n : M) (q : List T) (t : Tail) (i asked taken : ℕ) → t ≡ Open → q ≡ [] → taken < asked → pop_note b n ≡ None → b.picks n i asked taken ≡ true → pick_of b n q t i asked taken ≡ true
+pick_stays b n q t i asked taken o e l none h =
+    ap (λ k. pick_by k (is_open t && b.picks n i asked (node_sent q asked taken)) (can_move (b.shown n) q t asked taken) i) none
+    ∙ (ap (λ k. is_open k && b.picks n i asked (node_sent q asked taken)) o
+    ∙ (ap (λ k. b.picks n i asked (node_sent k asked taken)) e
+    ∙ (ap (λ k. b.picks n i asked k) (nothing_queued asked taken l) ∙ h)))
+
+row_stays : {M T : Type 0} (b : Machine M T) (n : M) (q : List T) (t : Tail) (asked taken : ℕ) → t ≡ Open → q ≡ [] → taken < asked → pop_note b n ≡ None → b.rows n asked taken ≡ true → row_of b n q t asked taken ≡ true
+row_stays {M} {T} b n q t asked taken o e l none h =
+    ap (λ k. row_by k (can_move (b.shown n) q t asked taken || (is_open t && b.rows n asked (node_sent q asked taken)))) none
+    ∙ (ap (λ k. can_move (b.shown n) q k asked taken || (is_open k && b.rows n asked (node_sent q asked taken))) o
+    ∙ (ap (λ k. can_move (b.shown n) k Open asked taken || b.rows n asked (node_sent k asked taken)) e
+    ∙ second_true (can_move (b.shown n) (nothing {A = T}) Open asked taken) (b.rows n asked (min asked (taken + 0))) (ap (λ k. b.rows n asked k) (nothing_queued asked taken l) ∙ h)))
+
+steps : {M T : Type 0} (b : Machine M T) (n : Queued M T) (asked taken : ℕ) → n.tail ≡ Open → n.queue ≡ [] → taken < asked → pop_note b n.node ≡ None → CanStep b.picks b.rows n.node asked taken → CanStep (queued_picks b) (queued_rows b) n asked taken
+steps b n asked taken o e l none can = elim can [
+  | inl k ↦ inl (k.0, k.1, pick_stays b n.node n.queue n.tail k.0 asked taken o e l none k.2)
+  | inr k ↦ inr (row_stays b n.node n.queue n.tail asked taken o e l none k)
 ]
+
+-- input 0 is one of those that can be told
+first_input : 0 < 2 ^ 64
+first_input = omega arith
+
+goes_on : {M T : Type 0} (b : Machine M T) (n : Queued M T) (asked taken : ℕ) → Goes b n.node n.queue n.tail asked taken → CanStep (queued_picks b) (queued_rows b) n asked taken
+goes_on b n asked taken (inl k) = inl (0, first_input, k)
+goes_on b n asked taken (inr k) = inr k
 
 none_held : {T : Type 0} (q : List T) (t : Tail) → first_held q t ≡ None → q ≡ []
 none_held [] t w = refl
@@ -187,8 +226,8 @@ queued_ending_waits {M} {T} b m shows waits n asked taken e none more = by_waiti
     still = open_in n.queue n.tail (b.ended n.node) e none
 
     by_waiting : (o : Option (Signal T)) → b.waiting m n.node ≡ o → CanStep (queued_picks b) (queued_rows b) n asked taken
-    by_waiting (Some s) w = inr (offered_moves b m shows n.node n.queue n.tail asked taken s still empty w more)
-    by_waiting None w = steps b n asked taken still empty more (waits n.node asked taken (sym (ap (λ k. ended_in k (b.ended n.node)) still) ∙ e) w more)
+    by_waiting (Some s) w = goes_on b n asked taken (offered_moves b m shows n.node n.queue n.tail asked taken s still empty w more)
+    by_waiting None w = steps b n asked taken still empty more (nothing_noted b m shows n.node w) (waits n.node asked taken (sym (ap (λ k. ended_in k (b.ended n.node)) still) ∙ e) w more)
 
 count_stays : {M T : Type 0} (b : Machine M T) (n : M) (q : List T) (took : List ℕ) (taken : ℕ) → q ≡ [] → b.counted n took (taken + length q) → b.counted n took taken
 count_stays {M} {T} b n q took taken e c =
@@ -207,11 +246,14 @@ queued_hungry {M} {T} b m shows hungers n took asked taken going counted none mo
     still = counted.0
 
     by_waiting : (o : Option (Signal T)) → b.waiting m n.node ≡ o → IsHungry (queued_takes b) (queued_picks b) (queued_rows b) (queued_done b) (queued_wanted b) (queued_reads b) n took asked taken
-    by_waiting (Some s) w = inr (inl (offered_moves b m shows n.node n.queue n.tail asked taken s still empty w more))
+    by_waiting (Some s) w = elim (offered_moves b m shows n.node n.queue n.tail asked taken s still empty w more) [
+      | inl k ↦ inl (0, first_input, k)
+      | inr k ↦ inr (inl k)
+    ]
     by_waiting None w = elim (hungers n.node took asked taken (sym (ap (λ k. ended_in k (b.ended n.node)) still) ∙ going) (count_stays b n.node n.queue took taken empty counted.1) w more within) [
-      | inl k ↦ inl (k.0, k.1, pick_stays b n.node n.queue n.tail k.0 asked taken still empty more k.2)
+      | inl k ↦ inl (k.0, k.1, pick_stays b n.node n.queue n.tail k.0 asked taken still empty more (nothing_noted b m shows n.node w) k.2)
       | inr y ↦ elim y [
-        | inl k ↦ inr (inl (row_stays b n.node n.queue n.tail asked taken still empty more k))
+        | inl k ↦ inr (inl (row_stays b n.node n.queue n.tail asked taken still empty more (nothing_noted b m shows n.node w) k))
         | inr z ↦ elim z [
           | inr r ↦ inr (inr (inr (r.0, ap (λ t. reads_in t (b.reads n.node)) still ∙ r.1)))
           | inl k ↦ inr (inr (inl (record {

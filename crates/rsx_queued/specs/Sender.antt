@@ -7,7 +7,7 @@ use Rattle.rsx_sources.specs.declared.machine.Machine.{Ghosts as Machine}
 use Rattle.rsx_queued.specs.declared.sender.Sender.{Sender}
 use Rattle.rsx_queued.specs.declared.sender.Sender.TheVariants.{Direct, Crossing}
 use Rattle.rsx_queued.specs.QueuedLaws.{Shows, Drops, Ends, Settles, Waits, Hungers, DoneDrops, queued_shows, queued_popped_alike, queued_drops, queued_ends, queued_ends_reading, queued_done_drops, queued_settles, queued_ending_waits, queued_hungry}
-use Rattle.rsx_queued.specs.Queued.{queued_comes_out, queued_waiting, queued_shown, queued_takes, queued_picks, queued_rows, queued_ended, queued_done, queued_counted, queued_wanted, queued_popped, queued_reads, queued_rooms, queued_allocates, queued_step_allocates}
+use Rattle.rsx_queued.specs.Queued.{queued_comes_out, queued_waiting, queued_shown, queued_takes, queued_picks, queued_rows, queued_recording, queued_ended, queued_done, queued_counted, queued_wanted, queued_popped, queued_reads, queued_rooms, queued_allocates, queued_step_allocates}
 use Rattle.rsx_queued.specs.Transfer.{IsQueuedRow}
 
 -- ---- its meaning is that of the node, or of the node with its queue
@@ -43,11 +43,16 @@ sender_rowed b x asked sent y = ⊥
 
 abbrev pub sender_recording : {M T : Type 0} → Machine M T → Sender M T → ℕ → Note
 sender_recording b (Direct n) i = b.recording n i
-sender_recording b (Crossing n) i = b.recording n.node i
+sender_recording b (Crossing n) i = queued_recording b n i
 
 abbrev pub sender_recorded : {M T : Type 0} → Machine M T → Sender M T → Note
 sender_recorded b (Direct n) = b.recorded n
 sender_recorded b (Crossing n) = b.recorded n.node
+
+-- taking from a queue isn't recorded: the signal was recorded as it went over the edge
+abbrev pub sender_popping : {M T : Type 0} → Machine M T → Sender M T → Option Note
+sender_popping b (Direct n) = b.popping n
+sender_popping b (Crossing n) = None
 
 abbrev pub sender_ended : {M T : Type 0} → Machine M T → Sender M T → Bool
 sender_ended b (Direct n) = b.ended n

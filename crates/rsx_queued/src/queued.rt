@@ -13,7 +13,8 @@ use std::alloc::Global;
 ///
 /// It is a node itself: what it offers is the oldest signal of its queue, and what it takes in goes to the node inside. So
 /// the Send of a tree over the edge is the *Take* of the queue, and what that edge counts as sent is what was taken. The
-/// *Send* over the edge, which moves the offered signal of the node inside into the queue, is its row.
+/// *Send* over the edge, which moves the offered signal of the node inside into the queue, is its row. Where the node inside records
+/// that signal as it goes, the Send is its pick of input 0 instead, since a row records nothing.
 #[derive(Drop)]
 pub struct Queued<M, T> {
     /// The node.
@@ -46,9 +47,31 @@ impl<M: Machine<Item = T> + Drop, T: Drop> Queued<M, T> {
     }
 }
 
+impl<M, T: Drop> Queued<M, T> {
+    ghost use Rattle.std.specs.Prelude.{◌≡◌, ◌<◌, length};
+    ghost use Rattle.rsx_types.specs.declared.limits.TheConstants.{CAPACITY};
+    ghost use Rattle.rsx_queued.specs.Transfer.{IsPushed};
+    ghost use Rattle.rsx_queued.specs.declared.tail.Tail.TheVariants.{Open};
+
+    /// Puts a signal that went over the edge at the back of the queue, which has room for it and no ending in it.
+    fn put(&mut self, signal: Signal<T>)
+        requires open { self.old.tail ≡ Open }
+        requires room { length self.old.queue < CAPACITY }
+        ensures node { self.new.node ≡ self.old.node }
+        ensures pushed { IsPushed self.old.queue signal self.new.queue self.new.tail }
+    {
+        match signal {
+            Signal::Next(item) => self.queue.push(item),
+            Signal::Complete => self.tail = Tail::Completion,
+            Signal::Error(cause) => self.tail = Tail::Failure(cause),
+        }
+    }
+}
+
 impl<M: Machine<Item = T>, T: Drop> Queued<M, T> {
     ghost use Rattle.std.specs.Prelude.{◌≡◌};
-    ghost use Rattle.rsx_queued.specs.Queued.{can_transfer, node_sent};
+    ghost use Rattle.std.specs.Option.{is_some};
+    ghost use Rattle.rsx_queued.specs.Queued.{can_transfer, node_sent, pop_note};
 
     /// How many items the node inside sent, where `asked` is asked over the edge and `taken` of them were taken; at most
     /// `asked`.
@@ -78,21 +101,33 @@ impl<M: Machine<Item = T>, T: Drop> Queued<M, T> {
             None => false,
         }
     }
+
+    /// Whether the node inside records the signal that it offers as that goes over the edge. Then that is a pick of input 0, since a
+    /// row records nothing.
+    pub fn records_transfer(&self) -> bool
+        ensures { result ≡ is_some (pop_note M.Machine self.now.node) }
+    {
+        if !self.node.records_pop() {
+            return false;
+        }
+        self.node.front().is_some()
+    }
 }
 
 impl<M: Machine<Item = T>, T: Drop> Machine for Queued<M, T> {
     type Item = T;
 
     ghost use Rattle.rsx_queued.specs.QueuedLaws.{queued_shows, queued_popped_alike, queued_drops, queued_ends, queued_settles, queued_ending_waits, queued_hungry, queued_ends_reading, queued_done_drops};
-    ghost use Rattle.rsx_queued.specs.Queued.{queued_comes_out, queued_waiting, queued_shown, queued_takes, queued_picks, queued_rows, queued_ended, queued_done, queued_counted, queued_wanted, queued_popped, queued_takes_published, queued_allocates, queued_step_allocates, can_transfer, QueuedCountsIn, QueuedCountsStep, QueuedAlike, queued_reads, queued_rooms};
+    ghost use Rattle.rsx_queued.specs.Queued.{queued_comes_out, queued_waiting, queued_shown, queued_takes, queued_picks, queued_rows, queued_recording, pop_note, queued_ended, queued_done, queued_counted, queued_wanted, queued_popped, queued_takes_published, queued_allocates, queued_step_allocates, can_transfer, QueuedCountsIn, QueuedCountsStep, QueuedAlike, queued_reads, queued_rooms};
     ghost use Rattle.rsx_queued.specs.declared.queued.Queued.{Queued};
     ghost use Rattle.rsx_sources.specs.Machine.{IsComposed, TakesIn, Keeps, Records, front_of};
     ghost use Rattle.rsx_sources.specs.Steps.{IsNotTaken, IsNotMade, IsSameKind, StaysAlike};
-    ghost use Rattle.rsx_queued.specs.Transfer.{IsQueueKept, IsQueuedRow, IsTransferred};
+    ghost use Rattle.rsx_queued.specs.Transfer.{IsMovedOver, IsQueueKept, IsQueuedRow, IsTransferred};
     ghost use Rattle.rsx_queued.specs.Calls.{NodeTakesIn, NodeReadsOn, NodePicks, QueuedPassed, QueuedSteppedOut};
     ghost use Rattle.rsx_types.specs.Notes.{note_then};
     ghost use Rattle.rsx_sources.specs.Reading.{IsReadOn, takes_published};
-    ghost use Rattle.std.specs.Prelude.{◌≡◌, true, false, IsOk, OnOk, OnErr, IfErr};
+    ghost use Rattle.std.specs.Option.{is_some};
+    ghost use Rattle.std.specs.Prelude.{◌≡◌, None, true, false, IsOk, OnOk, OnErr, IfErr};
 
     ghost comes_out = { queued_comes_out M.Machine };
 
@@ -108,9 +143,12 @@ impl<M: Machine<Item = T>, T: Drop> Machine for Queued<M, T> {
 
     ghost rowed = { IsQueuedRow M.Machine };
 
-    ghost recording = { λ n i. M.recording n.node i };
+    ghost recording = { queued_recording M.Machine };
 
     ghost recorded = { λ n. M.recorded n.node };
+
+    // What is in the queue was recorded as it went over the edge.
+    ghost popping = { λ n. None };
 
     ghost ended = { queued_ended M.Machine };
 
@@ -153,6 +191,10 @@ impl<M: Machine<Item = T>, T: Drop> Machine for Queued<M, T> {
             Some(item) => Ok(Some(Signal::Next(item))),
             None => Ok(self.tail.take()),
         }
+    }
+
+    fn records_pop(&self) -> bool {
+        false
     }
 
     #[inline(never)]
@@ -262,11 +304,21 @@ impl<M: Machine<Item = T>, T: Drop> Machine for Queued<M, T> {
 
     #[inline(never)]
     fn can_pick(&self, input: u64, asked: u64, sent: u64) -> bool {
+        if self.records_transfer() {
+            return input == 0 && self.can_transfer(asked, sent);
+        }
         self.tail.is_open() && self.node.can_pick(input, asked, self.sent(asked, sent))
     }
 
     #[inline(never)]
     fn next_pick(&self, asked: u64, sent: u64) -> Option<u64> {
+        if self.records_transfer() {
+            return if self.can_transfer(asked, sent) {
+                Some(0)
+            } else {
+                None
+            };
+        }
         if !self.tail.is_open() {
             return None;
         }
@@ -282,19 +334,39 @@ impl<M: Machine<Item = T>, T: Drop> Machine for Queued<M, T> {
         asked: u64,
         sent: u64,
     ) -> Result<(), NotMade>
-        ensures ok { OnOk result (Records (queued_comes_out M.Machine (O.meaning ops.now)) self.old (M.recording self.old.node input) self.new) }
+        ensures ok { OnOk result (Records (queued_comes_out M.Machine (O.meaning ops.now)) self.old (queued_recording M.Machine self.old input) self.new) }
         ensures enabled { OnOk result (queued_picks M.Machine self.old input asked sent ≡ true) }
-        ensures recorded { OnOk result (M.recorded self.new.node ≡ note_then (M.recorded self.old.node) (M.recording self.old.node input)) }
-        ensures composes { OnOk result (IsComposed (M.recorded self.old.node) (M.recording self.old.node input)) }
+        ensures recorded { OnOk result (M.recorded self.new.node ≡ note_then (M.recorded self.old.node) (queued_recording M.Machine self.old input)) }
+        ensures composes { OnOk result (IsComposed (M.recorded self.old.node) (queued_recording M.Machine self.old input)) }
         ensures counts { OnOk result (QueuedCountsStep M.Machine self.old self.new) }
         ensures err { IfErr result (IsNotMade (queued_picks M.Machine self.old input asked sent)) }
         ensures memory { queued_step_allocates M.Machine (O.allocates ops.now) self.old ≡ false →
             IfErr result (λ e. e ≡ NotMade.NotEnabled) }
         ensures alike { QueuedAlike M.Machine self.old self.new }
         ensures same { OnErr result (self.new ≡ self.old) }
-        ensures queue { IsQueueKept self.old self.new }
-        ensures node { OnOk result (NodePicks M.Machine (O.meaning ops.now) self.old.node input self.new.node) }
+
+        // Where the offered signal is recorded as it goes over the edge, this is the Send over it, and else a pick of the node, of which
+        // the queue is none.
+        ensures over { is_some (pop_note M.Machine self.old.node) ≡ true → OnOk result (IsMovedOver M.Machine self.old self.new) }
+        ensures sent { is_some (pop_note M.Machine self.old.node) ≡ true → queued_picks M.Machine self.old input asked sent ≡ true →
+            M.pop_allocates (O.allocates ops.now) self.old.node ≡ false → IsOk result }
+        ensures queue { pop_note M.Machine self.old.node ≡ None → IsQueueKept self.old self.new }
+        ensures node { pop_note M.Machine self.old.node ≡ None →
+            OnOk result (NodePicks M.Machine (O.meaning ops.now) self.old.node input self.new.node) }
     {
+        if self.records_transfer() {
+            if input != 0 || !self.can_transfer(asked, sent) {
+                return Err(NotMade::NotEnabled);
+            }
+            return match self.node.pop_front(alloc, ops) {
+                Ok(Some(signal)) => {
+                    self.put(signal);
+                    Ok(())
+                }
+                Ok(None) => Err(NotMade::NotEnabled),
+                Err(NoMemory) => Err(NotMade::NoMemory),
+            };
+        }
         if !self.tail.is_open() {
             return Err(NotMade::NotEnabled);
         }
@@ -307,6 +379,9 @@ impl<M: Machine<Item = T>, T: Drop> Machine for Queued<M, T> {
 
     #[inline(never)]
     fn can_row(&self, asked: u64, sent: u64) -> bool {
+        if self.records_transfer() {
+            return false;
+        }
         if self.can_transfer(asked, sent) {
             return true;
         }
@@ -332,43 +407,39 @@ impl<M: Machine<Item = T>, T: Drop> Machine for Queued<M, T> {
         ensures alike { QueuedAlike M.Machine self.old self.new }
         ensures same { OnErr result (self.new ≡ self.old) }
 
-        // Where a signal can go over the edge, this is the Send over it, and else a row of the node, of which the queue is none.
+        // Where a signal can go over the edge and isn't recorded by that, this is the Send over it, and else a row of the node, of which the
+        // queue is none.
         ensures transferred { can_transfer M.Machine self.old asked sent ≡ true →
             OnOk result (IsTransferred M.Machine (O.meaning ops.now) self.old self.new) }
         ensures beside { can_transfer M.Machine self.old asked sent ≡ false → IsQueueKept self.old self.new }
-        ensures sent { can_transfer M.Machine self.old asked sent ≡ true →
+        ensures sent { pop_note M.Machine self.old.node ≡ None → can_transfer M.Machine self.old asked sent ≡ true →
             M.pop_allocates (O.allocates ops.now) self.old.node ≡ false → IsOk result }
     {
-        if !self.can_transfer(asked, sent) {
-            if !self.tail.is_open() {
-                return Err(NotMade::NotEnabled);
-            }
-            let by_node = self.sent(asked, sent);
-            return match self.node.on_row(alloc, ops, asked, by_node) {
-                Ok(()) => Ok(()),
-                Err(why) => Err(why),
+        if self.records_transfer() {
+            return Err(NotMade::NotEnabled);
+        }
+        if self.can_transfer(asked, sent) {
+            return match self.node.pop_front(alloc, ops) {
+                Ok(Some(signal)) => {
+                    self.put(signal);
+                    Ok(())
+                }
+                Ok(None) => Err(NotMade::NotEnabled),
+                Err(NoMemory) => Err(NotMade::NoMemory),
             };
         }
-        match self.node.pop_front(alloc, ops) {
-            Ok(Some(Signal::Next(item))) => {
-                self.queue.push(item);
-                Ok(())
-            }
-            Ok(Some(Signal::Complete)) => {
-                self.tail = Tail::Completion;
-                Ok(())
-            }
-            Ok(Some(Signal::Error(cause))) => {
-                self.tail = Tail::Failure(cause);
-                Ok(())
-            }
-            Ok(None) => Err(NotMade::NotEnabled),
-            Err(NoMemory) => Err(NotMade::NoMemory),
+        if !self.tail.is_open() {
+            return Err(NotMade::NotEnabled);
+        }
+        let by_node = self.sent(asked, sent);
+        match self.node.on_row(alloc, ops, asked, by_node) {
+            Ok(()) => Ok(()),
+            Err(why) => Err(why),
         }
     }
 
-    /// The item that the node offers goes out at once where the queue is empty and the item could go into it. That is a row. Whether it
-    /// offers one is told by taking it.
+    /// The item that the node offers goes out at once where the queue is empty and the item could go into it. That is a row, so only an
+    /// item that isn't recorded goes. Whether it offers one is told by taking it.
     #[inline(never)]
     fn step_item<O: Ops<Item = T>>(
         &mut self,
@@ -381,7 +452,7 @@ impl<M: Machine<Item = T>, T: Drop> Machine for Queued<M, T> {
         ensures alike { QueuedAlike M.Machine self.old self.new }
         ensures queue { IsQueueKept self.old self.new }
     {
-        if !self.queue.is_empty() || !self.tail.is_open() {
+        if self.node.records_pop() || !self.queue.is_empty() || !self.tail.is_open() {
             return None;
         }
         if self.sent(asked, sent) >= asked {

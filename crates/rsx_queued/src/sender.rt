@@ -19,7 +19,7 @@ pub enum Sender<M, T> {
 impl<M: Machine<Item = T>, T: Drop> Machine for Sender<M, T> {
     type Item = T;
 
-    ghost use Rattle.rsx_queued.specs.Sender.{is_crossing, sender_comes_out, sender_waiting, sender_shown, sender_takes, sender_picks, sender_rows, sender_rowed, sender_recording, sender_recorded, sender_ended, sender_done, sender_counted, sender_wanted, sender_popped, sender_pop_allocates, sender_signal_allocates, sender_step_allocates, sender_shows, sender_alike, sender_drops, sender_ends, sender_settles, sender_ending_waits, sender_hungry, SenderCountsIn, SenderCountsStep, SenderAlike, SenderSameKind, sender_reads, sender_rooms, sender_takes_published, sender_ends_reading, sender_done_drops};
+    ghost use Rattle.rsx_queued.specs.Sender.{is_crossing, sender_comes_out, sender_waiting, sender_shown, sender_takes, sender_picks, sender_rows, sender_rowed, sender_recording, sender_recorded, sender_popping, sender_ended, sender_done, sender_counted, sender_wanted, sender_popped, sender_pop_allocates, sender_signal_allocates, sender_step_allocates, sender_shows, sender_alike, sender_drops, sender_ends, sender_settles, sender_ending_waits, sender_hungry, SenderCountsIn, SenderCountsStep, SenderAlike, SenderSameKind, sender_reads, sender_rooms, sender_takes_published, sender_ends_reading, sender_done_drops};
     ghost use Rattle.rsx_queued.specs.declared.sender.Sender.{Sender};
     ghost use Rattle.rsx_sources.specs.Machine.{TakesIn, front_of};
     ghost use Rattle.rsx_sources.specs.Steps.{IsNotTaken, IsSameKind, StaysAlike};
@@ -44,6 +44,8 @@ impl<M: Machine<Item = T>, T: Drop> Machine for Sender<M, T> {
     ghost recording = { sender_recording M.Machine };
 
     ghost recorded = { sender_recorded M.Machine };
+
+    ghost popping = { sender_popping M.Machine };
 
     ghost ended = { sender_ended M.Machine };
 
@@ -83,6 +85,14 @@ impl<M: Machine<Item = T>, T: Drop> Machine for Sender<M, T> {
         match self {
             Sender::Direct(node) => node.pop_front(alloc, ops),
             Sender::Crossing(node) => node.pop_front(alloc, ops),
+        }
+    }
+
+    #[inline]
+    fn records_pop(&self) -> bool {
+        match self {
+            Sender::Direct(node) => node.records_pop(),
+            Sender::Crossing(node) => node.records_pop(),
         }
     }
 

@@ -110,6 +110,6 @@ joins_ended b crossing holds law m old new upper below lower at k reader queue i
       (
         above.out,
         above.sent,
-        law m old new upper below gave.before lower at k reader queue items taken gave.last under.out above.out taken_above taken_below whole cut held reads can reached (all ∙ under.sent) gone free free' (subst A (sym gone.alike.2) none_reads.now_below) adds none above.flow under.flow,
+        law m old new upper below gave.before lower at k reader queue items taken gave.last under.out above.out taken_above taken_below whole cut held reads can reached (all ∙ under.sent) gave.ends gone free free' (subst A (sym gone.alike.2) none_reads.now_below) adds none above.flow under.flow,
       ),
     )

@@ -9,6 +9,7 @@ use Rattle.rsx_rooted.specs.declared.nodes.CrossingNodes.{Ghosts as CrossingNode
 use Rattle.rsx_rooted.proofs.Moves.{flows_chosen, flows_sent}
 use Rattle.rsx_rooted.specs.Local.{AllOf, Begins, ReadsNot, stream_of}
 use Rattle.rsx_tree.proofs.Noted.{kept_chosen}
+use Rattle.rsx_tree.proofs.Popped.{ending_gone}
 use Rattle.rsx_tree.proofs.Readings.{shut_readings}
 use Rattle.rsx_tree.proofs.Trees.{kept_closed}
 use Rattle.rsx_tree.specs.Edges.{EdgeView, closed_state, closed_view, edge_view, is_live, passed}
@@ -449,7 +450,7 @@ module _ {M T : Type 0} (b : Machine M T) (crossing : CrossingNodes M T) (holds 
         ∙ (ap (λ l. (l ++ map Next items) ++ u.ending ∷ []) (sym came_items.are) ∙ (ap (λ l. l ++ u.ending ∷ []) end.front ∙ append_assoc (map Next cut.queue) u.out (u.ending ∷ []))) in
         let carries = flows_sent b m (Begins tb) opening.lower.part.tree u.kept.tree low.tree u.out u.ending u.under.flow u.lets in
         let part = law m was.part opening.upper.part now.upper.part opening.lower.part u.kept low now.at k cut.before cut.reader there cut.queue items came_items.items (sent_signals was.up) u.out u.ending now.upper.up last.inlet ta tb whole
-        pos was_cut counts above is u.under u.lets carries done.0 linked hub_is carried_is came_items.are signals (shared_items u.kept.tree u.under.reading) in
+        pos was_cut counts above is u.under u.ends u.lets carries done.0 linked hub_is carried_is came_items.are signals (shared_items u.kept.tree u.under.reading) in
         let P : Part M → Type 0 = λ q. PieceStands b m whole was.part.tree (sent_signals was.up) q now.upper.up in
         assembled j up (subst P (sym done.1) part) (beside_joined u.kept items u.straight u.under.reading done.0 done.1)
 
@@ -536,7 +537,7 @@ module _ {M T : Type 0} (b : Machine M T) (crossing : CrossingNodes M T) (holds 
       let held = held_in crossing (place_at now.at now.upper.part.tree) in
       let x = put_node crossing None (place_at now.at now.upper.part.tree) [] g.below.tree.machine in
       let E : Ending → Type 0 = λ z. HoldsEnding b m (crossing.ended_queue z (held ++ []) g.below.tree.machine) (map Next (held ++ []) ++ u.ending ∷ []) g.below.tree.machine in
-      let over = subst E (sym (ap (ending_in crossing) place.1 ∙ ap ending_of place.2)) (ends_law m e (held ++ []) u.ending u.kept.tree.machine g.below.tree.machine straight ending_is u.lets.offered u.lets.lets_go) in
+      let over = subst E (sym (ap (ending_in crossing) place.1 ∙ ap ending_of place.2)) (ends_law m e (held ++ []) u.ending u.kept.tree.machine g.below.tree.machine straight ending_is u.lets.offered (ending_gone b m u.kept.tree u.ending g.below.tree u.lets u.ends).0) in
       let R : List (Option Reading) → Type 0 = λ l. AllGoOn (readings b opening.lower.part.tree) l in
       let go : AllGoOn (readings b opening.lower.part.tree) (readings b g.below.tree) = subst R (sym u.lets.alike.2) u.under.reading in
       let each = beside x g.below.tree.inputs place.0 pos place.1 alone (λ h _. no_hub reads_still place.0.node e place.2 h)

@@ -3,7 +3,7 @@ use Rattle.std.proofs.Common.{◌≡◌, inl, inr, ℕ, zero, suc, ◌+◌, ◌-
 use Rattle.std.specs.Prelude.{not, ◌&&◌}
 use Rattle.std.proofs.lemmas.Bool.{and_parts, cases_lt}
 use Rattle.std.proofs.lemmas.List.{append-nil}
-use Rattle.rsx_sources.specs.Prelude.{Ending, LetsGo, Meaning, Next, Complete, Error, Reading, Signal, Stream, ends_input}
+use Rattle.rsx_sources.specs.Prelude.{Ending, LetsGo, Meaning, Next, Complete, Error, Reading, Signal, Stream, ends_input, notes_then}
 use Rattle.rsx_sources.specs.declared.machine.Machine.{Ghosts as Machine}
 use Rattle.rsx_rooted.specs.declared.nodes.CrossingNodes.{Ghosts as CrossingNodes}
 use Rattle.rsx_rooted.proofs.Sends.{sent_out}
@@ -13,7 +13,9 @@ use Rattle.rsx_rooted.specs.Local.{AllOf, IsOf, ReadsNot}
 use Rattle.rsx_rooted.specs.Regions.{Carries}
 use Rattle.rsx_rooted.specs.Splice.{splice}
 use Rattle.rsx_tree.proofs.Alike.{popped_alike}
+use Rattle.rsx_tree.proofs.Popped.{ending_gone}
 use Rattle.rsx_tree.proofs.Rows.{out_lets_go}
+use Rattle.rsx_pipe.proofs.Rejoins.{endings_end}
 use Rattle.rsx_tree.specs.Balance.{IsBalancedAfter, IsOwnerBalanced, IsRowBalanced, sent_over}
 use Rattle.rsx_tree.specs.Edges.{EdgeView, edge_view, is_live}
 use Rattle.rsx_tree.specs.Inputs.{comes_in, edges, notes_of, size}
@@ -133,17 +135,27 @@ nothing_counted b Complete t sent e = tt
 nothing_counted b (Error c) t sent e = tt
 
 pub lets_go_over : {M T : Type 0} (b : Machine M T) (m : Meaning T) (n n' : M) (t u : Inputs M) (s : Signal T) → ends_input s ≡ true → IsLetGo b m (record { machine = n; inputs = t }) s (record { machine = n'; inputs = t }) → IsLetGo b m (record { machine = n; inputs = u }) s (record { machine = n'; inputs = u })
-lets_go_over b m n n' t u s e h = record {
-  offered = h.offered;
-  popped = (h.popped.0, refl);
-  lets_go = h.lets_go;
-  node = h.node;
-  counts = h.counts;
-  value = λ hubs further at. out_lets_go b m hubs n n' s h.lets_go (comes_in b m hubs further u (at + 1)) (slice_get further at);
-  notes = let same : b.recorded n' ≡ b.recorded n = let k = h.notes in cc in ap (λ k. k ∷ notes_of b u) same;
-  balance = λ sent k. nothing_counted b s (record { machine = n'; inputs = u }) sent e;
-  alike = popped_alike b n n' u h.node;
-}
+lets_go_over b m n n' t u s e h =
+    let gone = ending_gone b m (record { machine = n; inputs = t }) s (record { machine = n'; inputs = t }) h e in
+    record {
+      offered = h.offered;
+      popped = (h.popped.0, refl);
+      note = None;
+      ending = λ _. refl;
+      ready = n;
+      noted = refl;
+      lets_go = gone.0;
+      recorded = gone.1;
+      node = h.node;
+      counts = h.counts;
+      choose = λ ks. ks;
+      count = λ ks. refl;
+      value = λ hubs further. out_lets_go b m hubs n n' s gone.0 (comes_in b m hubs further u 1) (slice_get further 0);
+      nodes = refl;
+      notes = λ further. ap (λ k. notes_then (k ∷ notes_of b u) further) gone.1;
+      balance = λ sent k. nothing_counted b s (record { machine = n'; inputs = u }) sent e;
+      alike = popped_alike b n n' u h.node;
+    }
 
 -- ---- another node over the edge, in the place of the reader
 
@@ -365,7 +377,7 @@ joins_whole b crossing holds law after m old new upper below lower at k before r
 -- ---- where the lower piece has sent its ending
 
 pub joins_whole_ended : {M T : Type 0} (b : Machine M T) (crossing : CrossingNodes M T) → HoldsLaw b crossing → CountedLaw b crossing → JoinsAfterEnding b crossing → JoinsWholeEnded b crossing
-joins_whole_ended {M} b crossing holds law after m old new upper below kept gone at k before reader s queue items taken queued out ending up inlet ta tb whole pos w count above there u lets carries can link hub carried came all sh =
+joins_whole_ended {M} b crossing holds law after m old new upper below kept gone at k before reader s queue items taken queued out ending up inlet ta tb whole pos w count above there u ends lets carries can link hub carried came all sh =
     let j = can_join_is b crossing upper at k kept.tree.machine items can in
     let far = node_reached b upper at k j.place taken inlet ta j.there j.reads link hub came in
     let held = can_held b crossing upper at k kept.tree.machine items j.place j.there can in
@@ -379,7 +391,7 @@ joins_whole_ended {M} b crossing holds law after m old new upper below kept gone
     let free = over_free b crossing holds m old new below kept p at k before reader j.place queue items w j.straight at_place j.alone go u.reading in
     let can_p : can_join b crossing p at k kept.tree.machine items ≡ true = ap (λ z. not (b.crosses kept.tree.machine) && can_join_in b crossing k items z) same ∙ can in
     let reached : HasReached b p at k (length taken) = record { place = j.place; there = at_place; reads = far } in
-    after m old new p below kept gone at k reader queue items taken ending (out ++ ending ∷ []) given ta tb whole w.cut w.reads.held (fresh b crossing k before reader w.reads) can_p reached all lets w.free free.1 (subst A (sym lets.alike.2) free.0) sh.above sh.below flow carries)
+    after m old new p below kept gone at k reader queue items taken ending (out ++ ending ∷ []) given ta tb whole w.cut w.reads.held (fresh b crossing k before reader w.reads) can_p reached all ends lets w.free free.1 (subst A (sym lets.alike.2) free.0) sh.above sh.below flow carries)
     in
     stands_filled b crossing holds m old new upper below at k before reader j.place s queue ta whole (crossing.queued (held_in crossing (place_at at upper.tree) ++ items) kept.tree.machine) kept.tree.inputs pos w j.there j.alone fills queued up count above there sh.same_above
 
@@ -401,7 +413,7 @@ joins_whole_at_end {M} {T} b crossing holds ends_law after m old new upper below
     let held = held_in crossing (place_at at upper.tree) in
     let x = put_node crossing None (place_at at upper.tree) [] gone.tree.machine in
     let E : Ending → Type 0 = λ z. HoldsEnding b m (crossing.ended_queue z (held ++ []) gone.tree.machine) (map Next (held ++ []) ++ ending ∷ []) gone.tree.machine in
-    let over = subst E (sym (ap (ending_in crossing) at_place ∙ ap ending_of read_to)) (ends_law m e (held ++ []) ending kept.tree.machine gone.tree.machine straight last lets.offered lets.lets_go) in
+    let over = subst E (sym (ap (ending_in crossing) at_place ∙ ap ending_of read_to)) (ends_law m e (held ++ []) ending kept.tree.machine gone.tree.machine straight last lets.offered (ending_gone b m kept.tree ending gone.tree lets (endings_end e ending last)).0) in
     let inputs : kept.tree.inputs ≡ gone.tree.inputs = lets.popped.1 in
     let rows0 = row_readings b below.tree.inputs in
     let x0 = crossing.queued queue below.tree.machine in

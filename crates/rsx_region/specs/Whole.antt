@@ -1,6 +1,6 @@
 -- Two pieces that are joined again are a piece, since the part was cut.
 use Rattle.std.specs.Prelude.{◌≡◌, ℕ, ◌+◌, ◌<◌, true, false, List, [], ◌∷◌, ◌++◌, length, map, Some}
-use Rattle.rsx_sources.specs.Prelude.{Ending, Meaning, Next, Signal, Stream}
+use Rattle.rsx_sources.specs.Prelude.{Ending, Meaning, Next, Signal, Stream, ends_input}
 use Rattle.rsx_sources.specs.declared.machine.Machine.{Ghosts as Machine}
 use Rattle.rsx_rooted.specs.Cutting.{endings}
 use Rattle.rsx_rooted.specs.declared.nodes.CrossingNodes.{Ghosts as CrossingNodes}
@@ -66,7 +66,7 @@ JoinsWholeEnded {M} {T} b crossing =
     (m : Meaning T) (old new upper below kept gone : Part M) (at k before : ℕ) (reader : M) (there : Station M) (queue items taken : List T) (queued out : List (Signal T)) (ending : Signal T) (up : Up T) (inlet : Inlet T) (taken_above taken_below whole : List (Stream T)) →
     0 < at → WasCut b crossing old at k before reader below queue new → carried_up up + items_in queued ≡ old.root.demand.sent →
     PieceStands b m taken_above new.tree queued upper up → station_of upper.tree (edge_view upper.root) at ≡ Some there → IsBelow b m taken_below below kept out there →
-    IsLetGo b m kept.tree ending gone.tree → Carries b m taken_below below.tree gone.tree (out ++ ending ∷ []) →
+    ends_input ending ≡ true → IsLetGo b m kept.tree ending gone.tree → Carries b m taken_below below.tree gone.tree (out ++ ending ∷ []) →
     can_join b crossing upper at k kept.tree.machine items ≡ true →
     InletStands b taken_above upper inlet → inlet.hub ≡ k → carried_down inlet.down ≡ before → received_signals inlet.down ≡ map Next taken → map Next taken ++ (map Next items ++ ending ∷ []) ≡ map Next queue ++ (out ++ ending ∷ []) →
     AreShared b k taken_above taken_below whole (map Next taken) upper.tree kept.tree →

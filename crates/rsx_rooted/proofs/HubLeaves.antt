@@ -1,5 +1,5 @@
 -- The node that reads a hub takes in several items of it at once, and lets several out.
-use Rattle.std.proofs.Common.{◌≡◌, ℕ, zero, suc, ◌+◌, ◌<◌, ◌≤◌, min, false, List, [], ◌∷◌, ◌++◌, length, length-append, reverse, take, drop, refl, ap, sym, ◌∙◌, subst, append_assoc, append-nil, arith}
+use Rattle.std.proofs.Common.{None, ◌≡◌, ℕ, zero, suc, ◌+◌, ◌<◌, ◌≤◌, min, false, List, [], ◌∷◌, ◌++◌, length, length-append, reverse, take, drop, refl, ap, sym, ◌∙◌, subst, append_assoc, append-nil, arith}
 use Rattle.std.proofs.lemmas.List.{length-reverse, reverse-append, reverse-reverse}
 use Rattle.rsx_hub.proofs.Offers.{first_out, still_member}
 use Rattle.rsx_hub.proofs.Spaces.{item_taken, spaces_after, spaces_room}
@@ -9,9 +9,8 @@ use Rattle.rsx_types.specs.declared.note.Note.TheVariants.{Nothing}
 use Rattle.rsx_types.specs.declared.signal.Signal.TheVariants.{Next}
 use Rattle.rsx_sources.specs.declared.machine.Machine.{Ghosts as Machine}
 use Rattle.rsx_sources.specs.Prelude.{Meaning}
-use Rattle.rsx_tree.specs.Fetched.{IsOut}
 use Rattle.rsx_tree.specs.Runs.{Leads}
-use Rattle.rsx_rooted.specs.Items.{ArePopped}
+use Rattle.rsx_rooted.specs.Items.{ArePopped, IsOut}
 use Rattle.rsx_rooted.specs.Taking.{IsItemTaken, IsTakenOff}
 
 -- the meaning of such a node
@@ -26,6 +25,7 @@ leaf_machine = record {
   rowed = λ n a s k. ⊥;
   recording = λ n i. Nothing;
   recorded = λ n. Nothing;
+  popping = λ n. None;
   ended = λ n. false;
   done = λ n i. false;
   counted = leaf_counted;
@@ -111,7 +111,7 @@ all_out {T} m (suc k) (x ∷ q) n new holds held is =
     let there : IsMember (member_of (with_queue n (x ∷ q))) = subst (λ l. IsMember (member_of (with_queue n l))) holds held in
     let out = first_out m n x q there in
     let P : LeafState T → Type 0 = λ s. IsOut leaf_machine m s x (with_queue n q) in
-    (with_queue n q, subst P here (out.0, out.1), all_out m k q (with_queue n q) new refl (still_member n x q there) is)
+    (with_queue n q, subst P here (out.0, out.1, refl), all_out m k q (with_queue n q) new refl (still_member n x q there) is)
 
 -- so do the copies of them, once they are gone
 pub given_all : {T : Type 0} (m : Meaning T) (k : ℕ) (n : LeafState T) (old items : List T) → old ≡ [] → items ≡ old ++ take k n.queue → IsMember (member_of n) →

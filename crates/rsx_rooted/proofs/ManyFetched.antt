@@ -4,6 +4,7 @@ use Rattle.rsx_rooted.proofs.OverEdges.{can_item, carried_more, carried_none, on
 use Rattle.rsx_rooted.specs.Items.{IsOutBy, IsRowBatch, carried, room, steps_for}
 use Rattle.rsx_sources.specs.Prelude.{Meaning, Next}
 use Rattle.rsx_sources.specs.declared.machine.Machine.{Ghosts as Machine}
+use Rattle.rsx_tree.proofs.Popped.{unrecorded_out}
 use Rattle.rsx_tree.proofs.Fetches.{fetched_tree, root_step_out}
 use Rattle.rsx_tree.proofs.Runs.{leads_by_lift, leads_by_on}
 use Rattle.rsx_tree.specs.Driven.{IsRowRun}
@@ -37,7 +38,7 @@ item_fed : {M T : Type 0} (b : Machine M T) (m : Meaning T) (by : Bool) (first b
     IsRowRun b m true first 0 e.demand.asked e.demand.sent r t r1 t1 → IsOutBy b m by r1 x r2 → IsItemFed b m budget (whole r t e) x behind (whole r2 t1 e1)
 item_fed {M} b m false first behind budget r r1 r2 t t1 x e e1 spent live free over run out =
     let all : first + (behind + 1) ≡ budget = omega (arith, spent) in
-    let led = fetched_tree b m e.demand.asked e.demand.sent budget (behind + 1) r r r2 t t1 (Some x) refl (first, r1, all, run, out) in
+    let led = fetched_tree b m e.demand.asked e.demand.sent budget (behind + 1) r r r2 t t1 (Some x) refl (first, r1, all, run, unrecorded_out b m r1 r2 x out.0 out.1) in
     let half : Rooted M = record { tree = led.0; root = e } in
     let count = led.1.spent in
     (led.1.count, half, omega (arith, count), driven_inside b m led.1.count e (record { machine = r; inputs = t }) led.0 led.1.run, sent_out b m half (whole r2 t1 e1) (Next x) led.2 (can_item e live free) over)
@@ -46,7 +47,7 @@ item_fed {M} b m true first behind budget r r1 r2 t t1 x e e1 spent live free ov
     let stays : t1 ≡ closed_row_if (b.ended s.0 && true) t1 = sym (ap (λ z. closed_row_if (z && true) t1) s.2) in
     let all : first + (behind + 2) ≡ budget = omega (arith, spent) in
     let led = fetched_tree b m e.demand.asked e.demand.sent budget (behind + 2) r r r1 t t1 None refl (first, all, run) in
-    let step = root_step_out b m r1 r2 t1 t1 e (Some x) (s.0, record { live = live; made = s.1; shut = stays }, s.3) in
+    let step = root_step_out b m r1 r2 t1 t1 e (Some x) (s.0, record { live = live; made = s.1; shut = stays }, unrecorded_out b m s.0 r2 x s.3.0 s.3.1) in
     let half : Rooted M = record { tree = step.0; root = e } in
     let count = led.spent in
     let moved = driven_inside b m led.count e (record { machine = r; inputs = t }) (record { machine = r1; inputs = t1 }) led.run in

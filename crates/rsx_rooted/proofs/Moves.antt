@@ -37,13 +37,13 @@ flows_chosen b m Fits old mid new out h k =
 -- the root lets a signal go
 pub flows_sent : {M T : Type 0} (b : Machine M T) (m : Meaning T) (Fits : List (Stream T) → Type 0) (old mid new : Node M) (out : List (Signal T)) (s : Signal T) → Flows b m Fits old mid out → IsLetGo b m mid s new → Flows b m Fits old new (out ++ s ∷ [])
 flows_sent b m Fits old mid new out s h k =
-    let fits_mid : (f : List Note) → AreFor b new f → AreFor b mid f = λ f len. len ∙ ap length k.notes in
+    let fits_mid : (f : List Note) → AreFor b new f → AreFor b mid (k.choose f) = λ f len. k.count f ∙ (len ∙ k.nodes) in
     record {
-      choose = h.choose;
-      count = λ f len. h.count f (fits_mid f len);
-      nodes = ap length k.notes ∙ h.nodes;
-      notes = λ f len. ap (λ ns. notes_then ns f) k.notes ∙ h.notes f (fits_mid f len);
-      value = λ hubs f fits len. h.value hubs f fits (fits_mid f len) ∙ (ap (option_map (signals_then out)) (k.value hubs f 0) ∙ map_more out s (comes_out b m hubs f new 0));
+      choose = λ f. h.choose (k.choose f);
+      count = λ f len. h.count (k.choose f) (fits_mid f len) ∙ k.count f;
+      nodes = k.nodes ∙ h.nodes;
+      notes = λ f len. k.notes f ∙ h.notes (k.choose f) (fits_mid f len);
+      value = λ hubs f fits len. h.value hubs (k.choose f) fits (fits_mid f len) ∙ (ap (option_map (signals_then out)) (k.value hubs f) ∙ map_more out s (comes_out b m hubs f new 0));
     }
 
 -- its nodes are handed the signal that comes next of a hub, or of a link

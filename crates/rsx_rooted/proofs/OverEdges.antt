@@ -14,10 +14,10 @@ use Rattle.rsx_tree.specs.Edges.{EdgeView, edge_view, can_pass, is_live}
 use Rattle.rsx_tree.specs.Changed.{Hold, IsSentOver}
 use Rattle.rsx_tree.specs.Driven.{IsMade, IsRowRun, IsRowStep}
 use Rattle.rsx_tree.specs.Inputs.{closed_row_if}
-use Rattle.rsx_tree.specs.Fetched.{IsOut}
-use Rattle.rsx_rooted.specs.Items.{ArePassed, ArePopped, IsIn, IsOutBy, IsRowBatch, carried, room, room_of, steps_for}
+use Rattle.rsx_rooted.specs.Items.{ArePassed, ArePopped, IsIn, IsOutBy, IsRowBatch, carried, room, room_of, steps_for, IsOut}
 use Rattle.rsx_tree.proofs.Drives.{run_beside, run_below, sent_here, step_here}
 use Rattle.rsx_tree.proofs.Runs.{leads_by_on}
+use Rattle.rsx_tree.proofs.Popped.{unrecorded_out}
 use Rattle.rsx_tree.proofs.Fetches.{sent_over}
 
 -- moves of a row, and then more of them
@@ -144,7 +144,7 @@ joined {M} {T} b m low by (x ∷ xs) ys count i asked sent r r' e e' n n' p belo
     let left : room (edge_view e1) ≡ e.demand.asked - (e.demand.sent + 1) = room_is (edge_view e1) live in
     let rest : length xs ≤ room (edge_view e1) = omega (arith, fits, here, left) in
     let stepped = stepped_out b m low i asked sent r e h.2 h.4 x p h.3 q beside live free h.7 in
-    let sends : (a s : ℕ) → IsSentOver b m r i a s e stepped.0 pass.0 e1 h.4 = sent_over b m r i e stepped.0 pass.0 e1 h.4 x stepped.2 pass.1.0 pass.1.1 (can_item e live free) refl in
+    let sends : (a s : ℕ) → IsSentOver b m r i a s e stepped.0 pass.0 e1 h.4 = sent_over b m r i e stepped.0 pass.0 e1 h.4 x (unrecorded_out b m stepped.0 h.4 x stepped.2.0 stepped.2.1) pass.1.0 pass.1.1 (can_item e live free) refl in
     let before = More' e n p below q beside in
     let offering = More' e h.2 p h.3 q beside in
     let ready = More' e stepped.0 p h.3 q beside in

@@ -101,8 +101,8 @@ put_out_sent {M = M} {T = T} b m old new s gone can view published e joins outpu
     record {
       value = λ more further len.
           map_then-last output s (comes_out b m (values_then published more) further new.tree 0)
-          ∙ (ap (λ o. option_map (signals_then output) o) (sym (gone.value (values_then published more) further 0))
-          ∙ (h.value more further (len ∙ ap length gone.notes) ∙ ap (λ ns. evaluated m (values_then published more) joins e (notes_then ns further)) (sym gone.notes)));
+          ∙ (ap (λ o. option_map (signals_then output) o) (sym (gone.value (values_then published more) further))
+          ∙ (h.value more (gone.choose further) (gone.count further ∙ (len ∙ gone.nodes)) ∙ ap (λ ns. evaluated m (values_then published more) joins e ns) (sym (gone.notes further))));
       orderly = IsOrderly-more output s open_before;
       unended = λ l. let x = live_item l in rw x.1 (IsUnended-more output x.0 open_before);
       ended = λ c u. let x = IsUnended-last output s u in passed_last (edge_view old.root) s was_live (sym (ap (λ v. v.state) view) ∙ c) x.0 x.1;

@@ -10,8 +10,7 @@ use Rattle.rsx_plain.specs.declared.node.PlainNode.{PlainNode}
 use Rattle.rsx_plain.specs.declared.state.PlainState.{PlainState}
 use Rattle.rsx_plain.specs.declared.state.PlainState.TheVariants.{Map as MapFrom, Filter as FilterFrom, Take as TakeFrom, Scan as ScanFrom, Buffer as BufferFrom, Distinct as DistinctFrom}
 use Rattle.rsx_plain.proofs.Passes.{passed}
-use Rattle.rsx_tree.specs.Fetched.{IsOut}
-use Rattle.rsx_rooted.specs.Items.{ArePassed, IsIn}
+use Rattle.rsx_rooted.specs.Items.{ArePassed, IsIn, IsOut}
 use Rattle.rsx_rooted.specs.Machines.{plain_machine}
 
 -- the node of an operator, with an empty slot
@@ -49,7 +48,7 @@ put_out {T} m old new x y p =
     let h = passed m old new [] 0 x (Item y) refl p in
     let alike = plain_popped_alike h.0 (Next y) (node new) h.2.popped_out in
     let same : (a : Allocates) → allocates_from a h.0.state ≡ allocates_from a old = λ a. sym ((alike.1.1 a).1) ∙ (ap (allocates_from a) p.state ∙ after m a old x) in
-    (h.0, (h.1, (refl, (refl, λ a. (refl, same a, refl)))), (h.2, alike))
+    (h.0, (h.1, (refl, (refl, λ a. (refl, same a, refl)))), (h.2, alike, refl))
 
 -- ---- all of them
 

@@ -1,8 +1,8 @@
 -- A node makes the batches that the node inside makes, where its edge crosses with a row for each item.
-use Rattle.std.proofs.Common.{◌≡◌, ℕ, ◌+◌, ◌<◌, Bool, true, false, ◌||◌, List, [], ◌∷◌, inl, inr, option_map, refl, ap, sym, ◌∙◌, subst, arith}
+use Rattle.std.proofs.Common.{◌≡◌, ℕ, ◌+◌, ◌<◌, Bool, true, false, ◌||◌, List, [], ◌∷◌, inl, inr, Option, None, option_map, refl, ap, sym, ◌∙◌, subst, arith}
 use Rattle.rsx_queued.proofs.Going.{could, holding, out_at, row_at}
 use Rattle.rsx_queued.specs.Held.{held_then, is_open}
-use Rattle.rsx_queued.specs.Queued.{node_sent}
+use Rattle.rsx_queued.specs.Queued.{node_sent, note_of_shown}
 use Rattle.rsx_queued.specs.QueuedLaws.{Shows}
 use Rattle.rsx_queued.specs.declared.queued.Queued.{Queued}
 use Rattle.rsx_queued.specs.declared.tail.Tail.{Tail}
@@ -10,14 +10,14 @@ use Rattle.rsx_queued.specs.declared.tail.Tail.TheVariants.{Open, Completion, Fa
 use Rattle.rsx_tree.specs.Allocates.{IsNodeAlike}
 use Rattle.rsx_tree.specs.Stepped.{IsStepOf}
 use Rattle.rsx_queued.proofs.Senders.{passed_direct}
-use Rattle.rsx_queued.specs.Sender.{is_crossing, sender_comes_out, sender_waiting, sender_shown, sender_takes, sender_picks, sender_rows, sender_rowed, sender_recording, sender_recorded, sender_ended, sender_done, sender_counted, sender_wanted, sender_popped, sender_pop_allocates, sender_signal_allocates, sender_step_allocates, sender_reads, sender_rooms}
+use Rattle.rsx_queued.specs.Sender.{is_crossing, sender_popping, sender_comes_out, sender_waiting, sender_shown, sender_takes, sender_picks, sender_rows, sender_rowed, sender_recording, sender_recorded, sender_ended, sender_done, sender_counted, sender_wanted, sender_popped, sender_pop_allocates, sender_signal_allocates, sender_step_allocates, sender_reads, sender_rooms}
 use Rattle.rsx_queued.specs.declared.sender.Sender.{Sender}
 use Rattle.rsx_queued.specs.declared.sender.Sender.TheVariants.{Direct, Crossing}
-use Rattle.rsx_sources.specs.Prelude.{Meaning}
+use Rattle.rsx_sources.specs.Prelude.{Meaning, Note}
+use Rattle.rsx_sources.specs.declared.machine.Front.{Front}
 use Rattle.rsx_sources.specs.declared.machine.Machine.{Ghosts as Machine}
 use Rattle.rsx_sources.specs.declared.machine.Passed.TheVariants.{Kept}
-use Rattle.rsx_tree.specs.Fetched.{IsOut}
-use Rattle.rsx_rooted.specs.Items.{ArePassed, ArePopped, IsIn, IsOutBy}
+use Rattle.rsx_rooted.specs.Items.{ArePassed, ArePopped, IsIn, IsOutBy, IsOut}
 use Rattle.rsx_rooted.specs.Taking.{IsItemTaken}
 use Rattle.rsx_rooted.specs.Went.{inside, sender_went}
 use Rattle.rsx_rooted.specs.declared.batch.Noted.{Noted}
@@ -39,6 +39,7 @@ sender_machine b = record {
   done = sender_done b;
   counted = sender_counted b;
   wanted = sender_wanted b;
+  popping = sender_popping b;
   popped = sender_popped b;
   reads = sender_reads b;
   rooms = sender_rooms b;
@@ -52,7 +53,7 @@ in_direct : {M T : Type 0} (b : Machine M T) (m : Meaning T) (i : ℕ) (s : M) (
 in_direct b m i s x t h = (passed_direct b m s t i x Kept h.0, (h.1.0, (refl, h.1.1.1)))
 
 out_direct : {M T : Type 0} (b : Machine M T) (m : Meaning T) (s : M) (x : T) (t : M) → IsOut b m s x t → IsOut (sender_machine b) m (Direct s) x (Direct t)
-out_direct b m s x t h = (record { waited = h.0.waited; popped_out = h.0.popped_out; value = h.0.value; notes = h.0.notes; counts = h.0.counts }, (h.1.0, (refl, h.1.1.1)))
+out_direct b m s x t h = (record { waited = h.0.waited; popped_out = h.0.popped_out; value = h.0.value; notes = h.0.notes; counts = h.0.counts }, (h.1.0, (refl, h.1.1.1)), h.2)
 
 step_direct : {M T : Type 0} (b : Machine M T) (m : Meaning T) (s : M) (asked sent : ℕ) (t : M) → IsStepOf b m s asked sent t → IsStepOf (sender_machine b) m (Direct s) asked sent (Direct t)
 step_direct b m s asked sent t (inl p) =
@@ -126,7 +127,7 @@ out_empty : {M T : Type 0} (b : Machine M T) (m : Meaning T) → Shows b m → (
 out_empty {M} {T} b m shows s x t still h = λ asked sent less.
     let old : Queued M T = record { node = s; queue = []; tail = Open } in
     let few : node_sent old.queue asked sent < asked = omega (arith, less) in
-    let row = row_at b m shows s t asked sent x (sym (could b m shows old asked sent x refl refl few h.0.waited)) h.0 in
+    let row = row_at b m shows s t asked sent x (sym (could b m shows old asked sent x refl refl few h.0.waited)) (silent (b.popping s) (b.shown s) h.2) h.0 in
     let k = row.counts in
     let out = out_at b m t x in (
       Crossing (holding t (x ∷ [])),
@@ -139,8 +140,11 @@ out_empty {M} {T} b m shows s x t still h = λ asked sent less.
         alike = alike_empty b s t [] (x ∷ []) h.1;
       }),
       h.0.counts.0 ∙ still,
-      (record { waited = out.waited; popped_out = out.popped_out; value = out.value; notes = out.notes; counts = out.counts }, (refl, (refl, λ a. (refl, refl, refl)))),
+      (record { waited = out.waited; popped_out = out.popped_out; value = out.value; notes = out.notes; counts = out.counts }, (refl, (refl, λ a. (refl, refl, refl))), refl),
     )
+  where
+    silent : (p : Option Note) (f : Option Front) → p ≡ None → note_of_shown p f ≡ None
+    silent p f e = ap (λ k. note_of_shown k f) e
 
 popped_empty : {M T : Type 0} (b : Machine M T) (m : Meaning T) → Shows b m → (xs : List T) (n k : M) → b.ended n ≡ false → ArePopped (IsOut b m) n xs k → ArePopped (IsOutBy (sender_machine b) m true) (empty n) xs (empty k)
 popped_empty b m shows [] n k still h = ap empty h

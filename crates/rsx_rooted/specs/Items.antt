@@ -1,11 +1,10 @@
 -- Items that go through nodes several at once: the single calls and moves that do the same, item by item.
-use Rattle.std.specs.Prelude.{◌≡◌, ◌⊎◌, ℕ, ◌+◌, ◌-◌, ◌<◌, Bool, true, false, List, [], ◌∷◌}
-use Rattle.rsx_sources.specs.Prelude.{Meaning, Next, IsTakenIn}
+use Rattle.std.specs.Prelude.{◌≡◌, ◌⊎◌, ℕ, ◌+◌, ◌-◌, ◌<◌, Bool, true, false, List, [], ◌∷◌, None}
+use Rattle.rsx_sources.specs.Prelude.{Meaning, Next, IsItemOut, IsTakenIn}
 use Rattle.rsx_sources.specs.declared.machine.Machine.{Ghosts as Machine}
 use Rattle.rsx_tree.specs.Allocates.{IsNodeAlike}
 use Rattle.rsx_tree.specs.Driven.{IsRowRun}
 use Rattle.rsx_tree.specs.Edges.{EdgeView, is_live}
-use Rattle.rsx_tree.specs.Fetched.{IsOut}
 use Rattle.rsx_tree.specs.Stepped.{IsStepOf}
 use Rattle.rsx_tree.specs.declared.inputs.Inputs.{Inputs}
 
@@ -37,6 +36,10 @@ ArePassed {T} {S} taken out old (x ∷ xs) ys new =
 -- an item of input i was taken in, and the node has not ended by it
 abbrev pub IsIn : {M T : Type 0} → Machine M T → Meaning T → ℕ → M → T → M → Type 0
 IsIn b m i old x new = IsTakenIn (b.comes_out m) b.takes b.recorded b.counted b.ended b.done old i (Next x) new × IsNodeAlike b old new
+
+-- the item that waited in a node went out of it, which records nothing as it goes, and the same of its calls may allocate
+abbrev pub IsOut : {M T : Type 0} → Machine M T → Meaning T → M → T → M → Type 0
+IsOut b m n x n' = IsItemOut (b.comes_out m) (b.waiting m) b.popped b.recorded b.counted b.ended b.done n x n' × IsNodeAlike b n n' × (b.popping n ≡ None)
 
 -- how many steps a node makes for so many items: one for each, or none
 abbrev pub steps_for : Bool → ℕ → ℕ

@@ -53,9 +53,8 @@ pub trait Batches: Machine {
     ghost spaces_of: { Self → ℕ };
 
     ghost use Rattle.std.specs.Prelude.{◌≡◌, ◌≤◌, ℕ, true, false, [], length, IfSome};
-    ghost use Rattle.rsx_rooted.specs.Items.{IsIn, IsOutBy, ArePassed, ArePopped, steps_for};
+    ghost use Rattle.rsx_rooted.specs.Items.{IsIn, IsOutBy, ArePassed, ArePopped, steps_for, IsOut};
     ghost use Rattle.rsx_rooted.specs.Taking.{IsItemTaken, IsTakenOff};
-    ghost use Rattle.rsx_tree.specs.Fetched.{IsOut};
     ghost use Rattle.rsx_tree.specs.Runs.{Leads};
     ghost use Rattle.rsx_rooted.specs.Resting.{IsAtRest};
 

@@ -22,6 +22,9 @@ pub enum Route {
     /// It crosses to another region, and signals go through its queue. Whether the next signal of the sender can go into the queue
     /// now.
     Queued(bool),
+    /// It crosses, the next signal of the sender can go into the queue now, and the sender records it as it goes: to the tree that is
+    /// a pick of input 0.
+    Recorded,
 }
 
 /// Nodes of which the trees of a graph are made. Of a tree that was made for an expression `IsBuilt` and `IsPlaced` say what it is.

@@ -1,8 +1,7 @@
 //! Batches through plain operators. While a batch is tried, a node of its own goes on in the place of the operator's.
 
 ghost use Rattle.std.specs.Prelude.{◌≡◌, ◌≤◌, [], length, true, IfSome};
-ghost use Rattle.rsx_tree.specs.Fetched.{IsOut};
-ghost use Rattle.rsx_rooted.specs.Items.{IsIn, ArePassed};
+ghost use Rattle.rsx_rooted.specs.Items.{IsIn, ArePassed, IsOut};
 ghost use Rattle.rsx_rooted.specs.Machines.{plain_machine};
 ghost use Rattle.rsx_rooted.specs.Went.{plain_went};
 ghost use Rattle.rsx_plain.specs.declared.node.PlainNode.{PlainNode as PlainNodeSpec};

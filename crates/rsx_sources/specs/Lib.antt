@@ -5,6 +5,7 @@ pub mod Heads
 pub mod Items
 pub mod Machine
 pub mod Passed
+pub mod Popping
 pub mod Prelude
 pub mod Range
 pub mod Reading

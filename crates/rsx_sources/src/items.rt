@@ -80,6 +80,8 @@ impl<T: Drop> Machine for ItemsNode<T> {
 
     ghost recorded = { λ n. Nothing };
 
+    ghost popping = { λ n. None };
+
     ghost ended = { λ n. false };
 
     ghost done = { λ n i. false };
@@ -119,6 +121,10 @@ impl<T: Drop> Machine for ItemsNode<T> {
             Some(item) => Ok(Some(Signal::Next(item))),
             None => Ok(Some(Signal::Complete)),
         }
+    }
+
+    fn records_pop(&self) -> bool {
+        false
     }
 
     fn put_back(&mut self, signal: Signal<T>)

@@ -89,6 +89,9 @@ pub trait Machine {
     /// What the node recorded.
     ghost recorded: { Self → Note };
 
+    /// What taking the offered signal out adds to what the node recorded, of a node that records its signals as they go out.
+    ghost popping: { Self → Option Note };
+
     /// Whether the node has put out its ending, so that what still comes in doesn't matter.
     ghost ended: { Self → Bool };
 
@@ -123,32 +126,39 @@ pub trait Machine {
     ghost step_allocates: { Allocates → Self → Bool };
 
     ghost use Rattle.std.specs.Prelude.{◌≡◌, ◌<◌, ◌^◌, ◌∷◌, ◌++◌, length, OnOk, OnErr, IfOk, IfErr, IfSome, IfNone, IsOk, Some, None, true, false, option_map};
+    ghost use Rattle.std.specs.Option.{is_some};
     ghost use Rattle.rsx_types.specs.Notes.{note_then, unchosen};
     ghost use Rattle.rsx_sources.specs.Counts.{CountsIn, CountsOut, CountsStep, CanStep, IsHungry, NeverSteps, AreWithin, ends_input};
     ghost use Rattle.rsx_sources.specs.Machine.{IsComposed, Keeps, TakesIn, Records, front_of, incoming_of};
-    ghost use Rattle.rsx_sources.specs.Passed.{IsItemOut, IsPassed, IsSteppedOut};
+    ghost use Rattle.rsx_sources.specs.Passed.{IsPassed, IsSteppedOut};
+    ghost use Rattle.rsx_sources.specs.Popping.{IsItemOutBy, IsPoppedBy, IsRecordedBy};
     ghost use Rattle.rsx_sources.specs.Reading.{IsReadOn, IsResidualOf, takes_published, hub_of};
-    ghost use Rattle.rsx_sources.specs.Steps.{IsSameKind, StaysAlike, IsPopped, IsNotTaken, IsNotMade};
+    ghost use Rattle.rsx_sources.specs.Steps.{IsSameKind, StaysAlike, IsNotTaken, IsNotMade};
 
     /// Which signal is offered, if one is: the first signal that still comes out.
     fn front(&self) -> Option<Front>
         ensures shown { result ≡ shown self.now }
         ensures first { (m : Meaning Self.Item) → result ≡ option_map front_of (waiting m self.now) };
 
-    /// Takes the offered signal out of the node. For want of memory it stays, and the node is unchanged; that comes only
-    /// where `pop_allocates`.
+    /// Takes the offered signal out of the node, which records it where `popping` says so. For want of memory it stays, and the
+    /// node is unchanged; that comes only where `pop_allocates`.
     fn pop_front<O: Ops<Item = Self::Item>>(
         &mut self,
         alloc: Global,
         ops: &O,
     ) -> Result<Option<Signal<Self::Item>>, NoMemory>
         ensures ok { IfOk result (λ s.
-            IsPopped (comes_out (O.meaning ops.now)) popped (waiting (O.meaning ops.now) self.old) self.old s self.new) }
-        ensures recorded { recorded self.new ≡ recorded self.old }
+            IsPoppedBy (comes_out (O.meaning ops.now)) popped recorded ended (popping self.old)
+            (waiting (O.meaning ops.now) self.old) self.old s self.new) }
+        ensures recorded { IsRecordedBy (popping self.old) (recorded self.old) (recorded self.new) }
         ensures counts { IfOk result (λ s. CountsOut counted ended done self.old s self.new) }
         ensures err { OnErr result (self.new ≡ self.old) }
         ensures memory { pop_allocates (O.allocates ops.now) self.old ≡ false → IsOk result }
         ensures alike { StaysAlike reads crosses pop_allocates signal_allocates step_allocates self.old self.new };
+
+    /// Whether taking the offered signal out is recorded.
+    fn records_pop(&self) -> bool
+        ensures { result ≡ is_some (popping self.now) };
 
     /// Puts the signal back that was popped last. Then the node is as it was before that.
     fn put_back(&mut self, signal: Signal<Self::Item>)
@@ -184,8 +194,8 @@ pub trait Machine {
     /// tells the rest: that nothing is offered, an ending, or want of memory.
     fn pop_item<O: Ops<Item = Self::Item>>(&mut self, alloc: Global, ops: &O) -> Option<Self::Item>
         ensures some { IfSome result (λ x.
-            IsItemOut (comes_out (O.meaning ops.now)) (waiting (O.meaning ops.now))
-            popped recorded counted ended done self.old x self.new) }
+            IsItemOutBy (comes_out (O.meaning ops.now)) (waiting (O.meaning ops.now))
+            popped recorded counted ended done (popping self.old) self.old x self.new) }
         ensures alike { StaysAlike reads crosses pop_allocates signal_allocates step_allocates self.old self.new }
         ensures none { IfNone result (self.new ≡ self.old) };
 

@@ -87,6 +87,8 @@ impl<T: Drop> Machine for RangeNode<T> {
 
     ghost recorded = { λ n. Nothing };
 
+    ghost popping = { λ n. None };
+
     ghost ended = { λ n. false };
 
     ghost done = { λ n i. false };
@@ -128,6 +130,10 @@ impl<T: Drop> Machine for RangeNode<T> {
         let item = ops.from_i64(alloc, number_at(self.first, self.at))?;
         self.at += 1;
         Ok(Some(Signal::Next(item)))
+    }
+
+    fn records_pop(&self) -> bool {
+        false
     }
 
     fn put_back(&mut self, signal: Signal<T>)

@@ -19,7 +19,7 @@ use Rattle.rsx_pipe.specs.Part.{IsPutOut, all_edges, has_room, queue_sink}
 use Rattle.rsx_pipe.specs.Part as Part
 use Rattle.rsx_pipe.specs.Crossing.{route, route_below}
 use Rattle.rsx_rooted.specs.declared.nodes.Route.{Route}
-use Rattle.rsx_rooted.specs.declared.nodes.Route.TheVariants.{Straight, Queued}
+use Rattle.rsx_rooted.specs.declared.nodes.Route.TheVariants.{Straight, Queued, Recorded}
 use Rattle.rsx_pipe.specs.Tree.{IsAllClosed, edges}
 use Rattle.rsx_tree.specs.declared.edge.EdgeState.TheVariants.{Live, Closed}
 use Rattle.rsx_tree.specs.declared.look.NodeMove.{NodeMove}
@@ -422,7 +422,18 @@ pub record IsNamed {M T : Type 0} (mc : Machine M T) (kd : Nodes M T) (m : Meani
 
 named_by : {M T : Type 0} (mc : Machine M T) (kd : Nodes M T) (m : Meaning T) (id : SubId) (sub : Subscription M T) (step : NodeMove) (n : ℕ) → n ≡ inside_node step → (r : Route) → route_below kd sub.part n ≡ r → IsNamed mc kd m id sub step (name_of r (Sub id) step)
 named_by mc kd m id sub (NodeAsk k) n at r is = record { tree = refl; enabled = λ can. can; effect = λ new h. h; answer = refl }
-named_by mc kd m id sub (NodePick k i) n at r is = record { tree = refl; enabled = λ can. can; effect = λ new h. h; answer = refl }
+named_by {M} {T} mc kd m id sub (NodePick k i) n at Straight is =
+    let w = ap (λ r. node_move r (Pick (Sub id) (record { 0 = k }) i)) (ap (λ j. route_below kd sub.part j) (sym at) ∙ is) in
+    record { tree = refl; enabled = λ can. ap (enabled_inside mc m sub) w ∙ can; effect = λ new h. subst (λ o. IsWorkedBy mc m o sub new) (sym w) h; answer = refl }
+named_by {M} {T} mc kd m id sub (NodePick k i) n at (Queued b) is =
+    let w = ap (λ r. node_move r (Pick (Sub id) (record { 0 = k }) i)) (ap (λ j. route_below kd sub.part j) (sym at) ∙ is) in
+    record { tree = refl; enabled = λ can. ap (enabled_inside mc m sub) w ∙ can; effect = λ new h. subst (λ o. IsWorkedBy mc m o sub new) (sym w) h; answer = refl }
+named_by {M} {T} mc kd m id sub (NodePick k zero) n at Recorded is =
+    let w = ap (λ r. node_move r (Send (Sub id) (record { 0 = k }))) (ap (λ j. route_below kd sub.part j) (sym at) ∙ is) in
+    record { tree = refl; enabled = λ can. ap (enabled_inside mc m sub) w ∙ can; effect = λ new h. subst (λ o. IsWorkedBy mc m o sub new) (sym w) h; answer = refl }
+named_by {M} {T} mc kd m id sub (NodePick k (suc i)) n at Recorded is =
+    let w = ap (λ r. node_move r (Pick (Sub id) (record { 0 = k }) (suc i))) (ap (λ j. route_below kd sub.part j) (sym at) ∙ is) in
+    record { tree = refl; enabled = λ can. ap (enabled_inside mc m sub) w ∙ can; effect = λ new h. subst (λ o. IsWorkedBy mc m o sub new) (sym w) h; answer = refl }
 named_by {M} {T} mc kd m id sub (NodeSend k) n at Straight is =
     let w = ap (λ r. node_move r (Send (Sub id) (record { 0 = k }))) (ap (λ i. route_below kd sub.part i) (sym at) ∙ is) in
     record { tree = refl; enabled = λ can. ap (enabled_inside mc m sub) w ∙ can; effect = λ new h. subst (λ o. IsWorkedBy mc m o sub new) (sym w) h; answer = refl }
@@ -438,6 +449,18 @@ named_by {M} {T} mc kd m id sub (NodeSend k) n at (Queued b) is =
     not_root : (k : ℕ) (c : Bool) → nat_eq k 0 ≡ c → (if nat_eq k 0 then Straight else route kd sub.part k) ≡ Queued b → IsTakeAnswer {T = T} (nat_eq k 0) id None
     not_root k false e q = subst (λ c. IsTakeAnswer {T = T} c id None) (sym e) refl
     not_root k true e q = let no = sym (ap (λ c. if c then Straight else route kd sub.part k) e) ∙ q in cc
+named_by {M} {T} mc kd m id sub (NodeSend k) n at Recorded is =
+    let w = ap (λ r. node_move r (Take (Sub id) (record { 0 = k }))) (ap (λ i. route_below kd sub.part i) (sym at) ∙ is) in
+    record {
+      tree = refl;
+      enabled = λ can. or_right (take_enabled sub k) _ (ap (enabled_inside mc m sub) w ∙ can);
+      effect = λ new h. subst (λ o. IsWorkedBy mc m o sub new) (sym w) h;
+      answer = not_root k (nat_eq k 0) refl (ap (λ i. route_below kd sub.part i) (sym at) ∙ is);
+    }
+  where
+    not_root : (k : ℕ) (c : Bool) → nat_eq k 0 ≡ c → (if nat_eq k 0 then Straight else route kd sub.part k) ≡ Recorded → IsTakeAnswer {T = T} (nat_eq k 0) id None
+    not_root k false e q = subst (λ c. IsTakeAnswer {T = T} c id None) (sym e) refl
+    not_root k true e q = let no = sym (ap (λ c. if c then Straight else route kd sub.part k) e) ∙ q in cc
 named_by {M} {T} mc kd m id sub (NodeRow k) n at Straight is =
     let w = ap (λ r. node_move r (Row (Sub id) (record { 0 = k }))) (ap (λ i. route_below kd sub.part i) (sym at) ∙ is) in
     record { tree = refl; enabled = λ can. ap (enabled_inside mc m sub) w ∙ can; effect = λ new h. subst (λ o. IsWorkedBy mc m o sub new) (sym w) h; answer = refl }
@@ -445,6 +468,9 @@ named_by {M} {T} mc kd m id sub (NodeRow k) n at (Queued true) is =
     let w = ap (λ r. node_move r (Send (Sub id) (record { 0 = k }))) (ap (λ i. route_below kd sub.part i) (sym at) ∙ is) in
     record { tree = refl; enabled = λ can. ap (enabled_inside mc m sub) w ∙ can; effect = λ new h. subst (λ o. IsWorkedBy mc m o sub new) (sym w) h; answer = refl }
 named_by {M} {T} mc kd m id sub (NodeRow k) n at (Queued false) is =
+    let w = ap (λ r. node_move r (Row (Sub id) (record { 0 = k }))) (ap (λ i. route_below kd sub.part i) (sym at) ∙ is) in
+    record { tree = refl; enabled = λ can. ap (enabled_inside mc m sub) w ∙ can; effect = λ new h. subst (λ o. IsWorkedBy mc m o sub new) (sym w) h; answer = refl }
+named_by {M} {T} mc kd m id sub (NodeRow k) n at Recorded is =
     let w = ap (λ r. node_move r (Row (Sub id) (record { 0 = k }))) (ap (λ i. route_below kd sub.part i) (sym at) ∙ is) in
     record { tree = refl; enabled = λ can. ap (enabled_inside mc m sub) w ∙ can; effect = λ new h. subst (λ o. IsWorkedBy mc m o sub new) (sym w) h; answer = refl }
 

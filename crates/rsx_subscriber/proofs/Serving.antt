@@ -76,6 +76,6 @@ pub quiet_move : {M T : Type 0} (mc : Machine M T) (kd : Nodes M T) (m : Meaning
 quiet_move mc kd m sub (Ask t n) l h = h.0 (NodeAsk n.0) l
 quiet_move mc kd m sub (Send t n) l h = inner_quiet mc kd m sub (Send t n) l h
 quiet_move mc kd m sub (Take t n) l h = or_from (take_enabled sub n.0) _ (and_right (nat_eq n.0 0) _ h.1) (inner_quiet mc kd m sub (Take t n) l h)
-quiet_move mc kd m sub (Pick t n i) l h = h.0 (NodePick n.0 i) l
+quiet_move mc kd m sub (Pick t n i) l h = inner_quiet mc kd m sub (Pick t n i) l h
 quiet_move mc kd m sub (Row t n) l h = inner_quiet mc kd m sub (Row t n) l h
 quiet_move mc kd m sub (Accept i) l h = refl

@@ -106,7 +106,7 @@ abbrev pub move_enabled_in : {M T : Type 0} → Machine M T → Nodes M T → Me
 move_enabled_in mc kd m sub (Ask t n) = ask_enabled mc sub n.0
 move_enabled_in mc kd m sub (Send t n) = enabled_inside mc m sub (inner_move kd sub (Send t n))
 move_enabled_in mc kd m sub (Take t n) = take_enabled sub n.0 || enabled_inside mc m sub (inner_move kd sub (Take t n))
-move_enabled_in mc kd m sub (Pick t n i) = Part.pick_enabled mc sub.part n.0 i
+move_enabled_in mc kd m sub (Pick t n i) = enabled_inside mc m sub (inner_move kd sub (Pick t n i))
 move_enabled_in mc kd m sub (Row t n) = enabled_inside mc m sub (inner_move kd sub (Row t n))
 move_enabled_in mc kd m sub (Accept h) = false
 

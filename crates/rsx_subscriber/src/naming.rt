@@ -1,8 +1,8 @@
 //! Which move inside a tree a move of a graph names, and how such a move is named.
 //!
 //! An edge that crosses to another region has a queue, which belongs to its sender: a Send puts the sender's next signal into
-//! the queue, and a Take hands the queue's first signal to the receiver. To the tree, the first is a row of the sender, and the
-//! second a Send over the edge.
+//! the queue, and a Take hands the queue's first signal to the receiver. To the tree, the first is a row of the sender, or a pick of
+//! its input 0 where the sender records the signal, and the second a Send over the edge.
 
 ghost use Rattle.std.specs.Prelude.{◌≡◌};
 ghost use Rattle.rsx_subscriber.specs.Moves as spec;
@@ -31,15 +31,21 @@ pub fn node_move(step: Move, route: Route) -> Option<NodeMove>
             Route::Straight => Some(NodeMove::Send(node.0)),
             Route::Queued(true) => Some(NodeMove::Row(node.0)),
             Route::Queued(false) => None,
+            Route::Recorded => Some(NodeMove::Pick(node.0, 0)),
         },
         Move::Take(_, node) => match route {
             Route::Straight => None,
-            Route::Queued(_) => Some(NodeMove::Send(node.0)),
+            Route::Queued(_) | Route::Recorded => Some(NodeMove::Send(node.0)),
         },
-        Move::Pick(_, node, input) => Some(NodeMove::Pick(node.0, input)),
+        Move::Pick(_, node, input) => match route {
+            Route::Recorded if input == 0 => None,
+            _ => Some(NodeMove::Pick(node.0, input)),
+        },
         Move::Row(_, node) => match route {
             Route::Queued(true) => None,
-            Route::Straight | Route::Queued(false) => Some(NodeMove::Row(node.0)),
+            Route::Straight | Route::Queued(false) | Route::Recorded => {
+                Some(NodeMove::Row(node.0))
+            }
         },
         Move::Accept(_) => None,
     }
@@ -63,12 +69,17 @@ pub fn name_of(tree: Tree, inside: NodeMove, route: Route) -> Move
         NodeMove::Ask(node) => Move::Ask(tree, NodeId(node)),
         NodeMove::Send(node) => match route {
             Route::Straight => Move::Send(tree, NodeId(node)),
-            Route::Queued(_) => Move::Take(tree, NodeId(node)),
+            Route::Queued(_) | Route::Recorded => Move::Take(tree, NodeId(node)),
         },
-        NodeMove::Pick(node, input) => Move::Pick(tree, NodeId(node), input),
+        NodeMove::Pick(node, input) => match route {
+            Route::Recorded if input == 0 => Move::Send(tree, NodeId(node)),
+            _ => Move::Pick(tree, NodeId(node), input),
+        },
         NodeMove::Row(node) => match route {
             Route::Queued(true) => Move::Send(tree, NodeId(node)),
-            Route::Straight | Route::Queued(false) => Move::Row(tree, NodeId(node)),
+            Route::Straight | Route::Queued(false) | Route::Recorded => {
+                Move::Row(tree, NodeId(node))
+            }
         },
     }
 }

@@ -18,7 +18,8 @@ use Rattle.rsx_tree.specs.Driven.{IsMade, IsRowRun, IsRowStep, IsRowEnded, IsRow
 use Rattle.rsx_tree.specs.declared.edge.EdgeState.TheVariants.{Live}
 use Rattle.rsx_tree.specs.Chosen.{IsChosen}
 use Rattle.rsx_tree.proofs.Noted.{pick_notes, row_notes, step_noted, picked_noted, row_noted, kept_chosen, chosen_then}
-use Rattle.rsx_tree.proofs.Trees.{node, kept_asked, can_asked, asked_effect, kept_sent, can_sent, sent_effect}
+use Rattle.rsx_tree.proofs.Popped.{chosen_sent}
+use Rattle.rsx_tree.proofs.Trees.{node, kept_asked, can_asked, asked_effect, can_sent, sent_effect}
 use Rattle.rsx_tree.specs.Balance.{IsBalanced}
 use Rattle.rsx_tree.proofs.Balances.{tree_ask_balanced, tree_send_balanced}
 use Rattle.rsx_tree.proofs.Alike.{closed_alike, made_alike, made_crosses, reads_made, reads_closed_if, tree_alike}
@@ -447,19 +448,16 @@ advanced {M} b m steps r r' asked sent at ends t mid h = elim h [
       subst C (sym x.stays) (subst R (sym same) (record {
         at = at;
         made = inl (can_asked b r asked sent at t mid made, asked_effect b r asked sent at t mid made);
-        kept = λ _. kept;
         chosen = kept_chosen b m (node r t) (node r mid) kept;
         balance = λ s k. tree_ask_balanced b r asked sent t at mid s made k;
         alike = tree_alike b r r t mid (λ a. made_alike b m steps r 0 asked sent t at false r mid (inl (record { made = made; stays = refl })) a) (reads_made b m steps r 0 asked sent t at false r mid (inl (record { made = made; stays = refl }))) refl;
       }))
   | inr y ↦ elim y [
     | inl x ↦
-        let kept = kept_sent b m r r' at t mid (closed_row_if ends mid) ends (x.made 0 0) refl in
         record {
           at = at;
           made = inr (inl (can_sent b m r r' at t mid (x.made 0 0), sent_effect b m r r' at t mid (closed_row_if ends mid) (x.made 0 0) (ap (λ c. closed_row_if c mid) x.ends_is)));
-          kept = λ _. kept;
-          chosen = kept_chosen b m (node r t) (node r' (closed_row_if ends mid)) kept;
+          chosen = chosen_sent b m r r' at t mid (closed_row_if ends mid) ends (x.made 0 0) refl;
           balance = λ s k. tree_send_balanced b m r r' 0 0 t at mid (closed_row_if ends mid) s (x.made 0 0) (ap (λ c. closed_row_if c mid) x.ends_is) k;
           alike = tree_alike b r r' t (closed_row_if ends mid) (λ a. closed_alike b a r' ends mid ∙ made_alike b m steps r 0 asked sent t at ends r' mid (inr (inl x)) a) (reads_closed_if b r r' t mid ends (reads_made b m steps r 0 asked sent t at ends r' mid (inr (inl x)))) (made_crosses b m steps r 0 asked sent t at ends r' mid (inr (inl x)));
         }
@@ -470,7 +468,6 @@ advanced {M} b m steps r r' asked sent at ends t mid h = elim h [
         subst C (sym z.1.stays) (subst R (sym z.1.receiver) (record {
           at = at;
           made = inr (inr (z.0, record { made = z.1.made; receiver = refl; stays = refl }));
-          kept = λ f. absurd (both_ways steps f z.0);
           chosen = both.0;
           balance = both.1;
           alike = tree_alike b r r t mid (λ a. made_alike b m steps r 0 asked sent t at false r mid (inr (inr (z.0, record { made = z.1.made; receiver = refl; stays = refl }))) a) (reads_made b m steps r 0 asked sent t at false r mid (inr (inr (z.0, record { made = z.1.made; receiver = refl; stays = refl })))) refl;

@@ -16,14 +16,14 @@ use Rattle.rsx_tree.specs.Allocates.{IsNodeAlike}
 use Rattle.rsx_tree.specs.Changed.{Hold, IsSentOver}
 use Rattle.rsx_tree.specs.Driven.{IsRowRun, IsRowStep}
 use Rattle.rsx_tree.specs.Fetched.{IsOut, IsHanded, IsPulled, IsRunOver, IsRowFetched, IsLed, IsFetched, IsRootStep, IsRootStepOut, IsStepOut}
-use Rattle.rsx_tree.specs.Tree.{IsLetGo}
 use Rattle.rsx_tree.proofs.Alike.{driven_alike, picked, row_made, tree_stepped_alike}
 use Rattle.rsx_tree.proofs.Changes.{Rest}
 use Rattle.rsx_tree.specs.Stepped.{IsPickedHere, IsRowMadeHere, IsStepOf, IsStepOver, IsSteppedAt}
 use Rattle.rsx_tree.proofs.Drives.{IsUnderWay, under_way_sent, step_here, run_below, run_beside, tree_run, chosen_run, balance_run, size_run}
 use Rattle.rsx_tree.proofs.Noted.{picked_effect, picked_enabled, picked_noted, row_effect, row_enabled, row_noted}
 use Rattle.rsx_tree.proofs.Runs.{leads_by_on}
-use Rattle.rsx_tree.proofs.Trees.{node, popped_tree}
+use Rattle.rsx_tree.proofs.Popped.{item_out}
+use Rattle.rsx_tree.proofs.Trees.{node}
 
 -- ---- one edge
 
@@ -32,18 +32,21 @@ pub sent_over : {M T : Type 0} (b : Machine M T) (m : Meaning T) (r : M) (i : �
     can_pass (edge_view e) ItemFront ≡ true → edge_view e' ≡ passed (edge_view e) ItemFront → (asked sent : ℕ) → IsSentOver b m r i asked sent e n r' e' n'
 sent_over b m r i e n r' e' n' x out taken alike can carried asked sent = record {
   signal = Next x;
-  can = ap (λ o. can_go (b.takes r i) (edge_view e) (option_map front_of o)) out.0.waited ∙ (ap (λ c. c && can_pass (edge_view e) ItemFront) taken.enabled ∙ can);
-  offered = out.0.waited;
-  popped = out.0.popped_out;
-  gone = out.0.value;
+  can = ap (λ o. can_go (b.takes r i) (edge_view e) (option_map front_of o)) out.waited ∙ (ap (λ c. c && can_pass (edge_view e) ItemFront) taken.enabled ∙ can);
+  offered = out.waited;
+  popped = out.popped;
+  note = out.note;
+  ready = out.ready;
+  noted = out.noted;
+  gone = out.value;
   taken = taken.value;
   edge = carried;
   receiver = taken.notes;
-  sender = out.0.notes;
+  sender = out.notes;
   counts_in = taken.counts;
-  counts_out = out.0.counts;
+  counts_out = out.counts;
   alike_in = alike;
-  alike_out = out.1;
+  alike_out = out.alike;
 }
 
 -- ---- the loop over an edge
@@ -188,9 +191,6 @@ led : {M T : Type 0} (b : Machine M T) (m : Meaning T) (k asked sent budget left
 led b m k asked sent budget left r r' t t' spent h =
     let run = tree_run b m true k asked sent r r' t t' h in
     record { count = k; spent = spent; run = run; chosen = chosen_run b m true k (node r t) (node r' t') asked sent run; balance = balance_run b m true k (node r t) (node r' t') asked sent run; alike = driven_alike b m true k (node r t) asked sent (node r' t') run }
-
-item_out : {M T : Type 0} (b : Machine M T) (m : Meaning T) (n n' : M) (t : Inputs M) (x : T) → IsOut b m n x n' → IsLetGo b m (node n t) (Next x) (node n' t)
-item_out b m n n' t x h = popped_tree b m n n' t (Some (Next x)) (h.0.waited, h.0.popped_out, h.0.value) h.0.notes h.0.counts h.1
 
 -- the root offered an item already
 pub fetched_at_once : {M T : Type 0} (b : Machine M T) (m : Meaning T) (asked sent budget : ℕ) (r r' : M) (t : Inputs M) (x : T) → IsOut b m r x r' → IsFetched b m budget (node r t) asked sent (Some x) budget (node r' t)

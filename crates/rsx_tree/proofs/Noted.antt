@@ -115,14 +115,16 @@ pub record IsNoting {M T : Type 0} (b : Machine M T) (m : Meaning T) (P : Step M
   pub value : (n : M) (asked sent : ℕ) (n' : M) → P n asked sent n' → (inc : Incoming T) (k : Note) → b.comes_out m n' inc k ≡ b.comes_out m n inc (front n k)
   pub recorded : (n : M) (asked sent : ℕ) (n' : M) → P n asked sent n' → b.recorded n' ≡ back n (b.recorded n)
   pub composes : (n : M) (asked sent : ℕ) (n' : M) → P n asked sent n' → (k : Note) → note_then (back n (b.recorded n)) k ≡ note_then (b.recorded n) (front n k)
-  pub counts : (n : M) (asked sent : ℕ) (n' : M) → P n asked sent n' → CountsStep b.counted b.ended b.done n n'
+
+-- such a step takes nothing and sends nothing
+abbrev pub IsCountingStep : {M T : Type 0} → Machine M T → Step M → Type 0
+IsCountingStep {M} b P = (n : M) (asked sent : ℕ) (n' : M) → P n asked sent n' → CountsStep b.counted b.ended b.done n n'
 
 pub pick_notes : {M T : Type 0} (b : Machine M T) (m : Meaning T) (i : ℕ) → IsNoting b m (IsPickedHere b m i) (λ n k. note_then (b.recording n i) k) (λ n k. note_then k (b.recording n i))
 pick_notes b m i = record {
   value = λ n a s n' h inc k. h.value inc k;
   recorded = λ n a s n' h. h.recorded;
   composes = λ n a s n' h k. h.composes k;
-  counts = λ n a s n' h. h.counts;
 }
 
 pub row_notes : {M T : Type 0} (b : Machine M T) (m : Meaning T) → IsNoting b m (IsRowMadeHere b m) (λ n k. k) (λ n k. k)
@@ -130,7 +132,6 @@ row_notes b m = record {
   value = λ n a s n' h inc k. h.value inc k;
   recorded = λ n a s n' h. h.recorded;
   composes = λ n a s n' h k. refl;
-  counts = λ n a s n' h. h.counts;
 }
 
 out_noted : {M T : Type 0} (b : Machine M T) (m : Meaning T) (hubs : List (Stream T)) (n n' : M) (f : Note → Note) → ((inc : Incoming T) (k : Note) → b.comes_out m n' inc k ≡ b.comes_out m n inc (f k)) → (o : Option (List (Stream T))) (k : Option Note) → out_of b m hubs n' o k ≡ out_of b m hubs n o (option_map f k)
@@ -287,11 +288,30 @@ pub record IsTreeNoted {M T : Type 0} (b : Machine M T) (m : Meaning T) (P : Ste
   pub chosen : IsChosen b m old new
   pub balance : (s : ℕ) → IsBalanced b old s → IsBalanced b new s
 
-pub root_noted : {M T : Type 0} (b : Machine M T) (m : Meaning T) (P : Step M) (front back : M → Note → Note) → IsNoting b m P front back → (r r' : M) (t t' : Inputs M) (e : EdgeView) → is_live e.state ≡ true → P r e.asked e.sent r' → t' ≡ closed_row_if (b.ended r' && true) t →
-    IsTreeNoted b m P back (node r t) e 0 (node r' t')
-root_noted {M} {T} b m P front back law r r' t t' e live made shut =
+-- what a step of the root says of what still comes out of the tree, and of what was recorded
+pub root_chosen : {M T : Type 0} (b : Machine M T) (m : Meaning T) (P : Step M) (front back : M → Note → Note) → IsNoting b m P front back → (r r' : M) (t : Inputs M) (asked sent : ℕ) → P r asked sent r' → IsChosen b m (node r t) (node r' (closed_row_if (b.ended r' && true) t))
+root_chosen {M} {T} b m P front back law r r' t asked sent made =
     let c = b.ended r' && true in
     let f = front r in
+    record {
+      choose = λ ks. noted_at 0 f ks;
+      count = λ ks. length_noted 0 f ks;
+      value = λ hubs further.
+          let ch = noted_at 0 f further in
+          ap (λ o. out_of b m hubs r' o (slice_get further 0)) (comes_in_closed_if b m hubs further c t 1)
+          ∙ (out_noted b m hubs r r' f (law.value r asked sent r' made) (comes_in b m hubs further t 1) (slice_get further 0)
+          ∙ (ap (λ k. out_of b m hubs r (comes_in b m hubs further t 1) k) (sym (get_noted 0 f further))
+          ∙ ap (λ o. out_of b m hubs r o (slice_get ch 0)) (sym (chosen_outside b m hubs 0 f further t 1 (inl (omega arith))))));
+      notes = λ ks.
+          ap (λ l. notes_then l ks) (ap (λ k. k ∷ notes_of b (closed_row_if c t)) (law.recorded r asked sent r' made) ∙ ap (λ l. back r (b.recorded r) ∷ l) (notes_closed_if b c t))
+          ∙ noted_then 0 (back r) f (b.recorded r) (b.recorded r ∷ notes_of b t) ks refl (law.composes r asked sent r' made);
+      nodes = ap (λ l. suc (length l)) (notes_closed_if b c t);
+    }
+
+pub root_noted : {M T : Type 0} (b : Machine M T) (m : Meaning T) (P : Step M) (front back : M → Note → Note) → IsNoting b m P front back → IsCountingStep b P → (r r' : M) (t t' : Inputs M) (e : EdgeView) → is_live e.state ≡ true → P r e.asked e.sent r' → t' ≡ closed_row_if (b.ended r' && true) t →
+    IsTreeNoted b m P back (node r t) e 0 (node r' t')
+root_noted {M} {T} b m P front back law counts r r' t t' e live made shut =
+    let c = b.ended r' && true in
     let Q : Inputs M → Type 0 = λ u. IsTreeNoted b m P back (node r t) e 0 (node r' u) in
     subst Q (sym shut) (record {
       there = record { machine = r; state = e.state; asked = e.asked; sent = e.sent };
@@ -301,33 +321,36 @@ root_noted {M} {T} b m P front back law r r' t t' e live made shut =
       made = made;
       edges = edges_closed_if c t ∙ ap (λ k. closed_if k (edges t)) (and_true (b.ended r'));
       notes = ap (λ k. k ∷ notes_of b (closed_row_if c t)) (law.recorded r e.asked e.sent r' made) ∙ ap (λ l. back r (b.recorded r) ∷ l) (notes_closed_if b c t);
-      chosen = record {
-        choose = λ ks. noted_at 0 f ks;
-        count = λ ks. length_noted 0 f ks;
-        value = λ hubs further.
-            let ch = noted_at 0 f further in
-            ap (λ o. out_of b m hubs r' o (slice_get further 0)) (comes_in_closed_if b m hubs further c t 1)
-            ∙ (out_noted b m hubs r r' f (law.value r e.asked e.sent r' made) (comes_in b m hubs further t 1) (slice_get further 0)
-            ∙ (ap (λ k. out_of b m hubs r (comes_in b m hubs further t 1) k) (sym (get_noted 0 f further))
-            ∙ ap (λ o. out_of b m hubs r o (slice_get ch 0)) (sym (chosen_outside b m hubs 0 f further t 1 (inl (omega arith))))));
-        notes = λ ks.
-            ap (λ l. notes_then l ks) (ap (λ k. k ∷ notes_of b (closed_row_if c t)) (law.recorded r e.asked e.sent r' made) ∙ ap (λ l. back r (b.recorded r) ∷ l) (notes_closed_if b c t))
-            ∙ noted_then 0 (back r) f (b.recorded r) (b.recorded r ∷ notes_of b t) ks refl (law.composes r e.asked e.sent r' made);
-        nodes = ap (λ l. suc (length l)) (notes_closed_if b c t);
-      };
-      balance = λ s k. root_balanced b r r' t s (law.counts r e.asked e.sent r' made) k;
+      chosen = root_chosen b m P front back law r r' t e.asked e.sent made;
+      balance = λ s k. root_balanced b r r' t s (counts r e.asked e.sent r' made) k;
     })
   where
     and_true : (x : Bool) → (x && true) ≡ x
     and_true true = refl
     and_true false = refl
 
-pub below_noted : {M T : Type 0} (b : Machine M T) (m : Meaning T) (P : Step M) (front back : M → Note → Note) → IsNoting b m P front back → (r : M) (t t' : Inputs M) (e : EdgeView) (at : ℕ) → IsStepped P b.ended t at t' → IsTreeNoted b m P back (node r t) e (suc at) (node r t')
-below_noted {M} {T} b m P front back law r t t' e at h =
+-- the same of a step of a node below it
+pub row_chosen : {M T : Type 0} (b : Machine M T) (m : Meaning T) (P : Step M) (front back : M → Note → Note) → IsNoting b m P front back → (r : M) (t t' : Inputs M) (at : ℕ) → IsStepped P b.ended t at t' → IsChosen b m (node r t) (node r t')
+row_chosen b m P front back law r t t' at h =
     let rec = step_noted b m P front back law t at t' h in
     let f = front rec.there.machine in
     let g = back rec.there.machine in
     let next : 1 + at ≡ suc at = omega arith in
+    record {
+      choose = λ ks. noted_at (suc at) f ks;
+      count = λ ks. length_noted (suc at) f ks;
+      value = λ hubs further.
+          ap (λ o. out_of b m hubs r o (slice_get further 0)) (rec.value hubs further 1 ∙ ap (λ k. comes_in b m hubs (noted_at k f further) t 1) next)
+          ∙ ap (λ k. out_of b m hubs r (comes_in b m hubs (noted_at (suc at) f further) t 1) k) (sym (get_other (suc at) 0 f further (λ q. absurd (omega (arith, q)))));
+      notes = λ ks.
+          ap (λ l. notes_then (b.recorded r ∷ l) ks) rec.notes
+          ∙ noted_then (suc at) g f (b.recorded rec.there.machine) (b.recorded r ∷ notes_of b t) ks rec.note (law.composes rec.there.machine rec.there.asked rec.there.sent rec.after rec.made);
+      nodes = ap (λ l. suc (length l)) rec.notes ∙ ap suc (length_noted at g (notes_of b t));
+    }
+
+pub below_noted : {M T : Type 0} (b : Machine M T) (m : Meaning T) (P : Step M) (front back : M → Note → Note) → IsNoting b m P front back → IsCountingStep b P → (r : M) (t t' : Inputs M) (e : EdgeView) (at : ℕ) → IsStepped P b.ended t at t' → IsTreeNoted b m P back (node r t) e (suc at) (node r t')
+below_noted b m P front back law counts r t t' e at h =
+    let rec = step_noted b m P front back law t at t' h in
     record {
       there = rec.there;
       after = rec.after;
@@ -336,25 +359,15 @@ below_noted {M} {T} b m P front back law r t t' e at h =
       made = rec.made;
       edges = rec.edges ∙ ap (λ c. stepped_edges c t at) (sym rec.ended);
       notes = ap (λ l. b.recorded r ∷ l) rec.notes;
-      chosen = record {
-        choose = λ ks. noted_at (suc at) f ks;
-        count = λ ks. length_noted (suc at) f ks;
-        value = λ hubs further.
-            ap (λ o. out_of b m hubs r o (slice_get further 0)) (rec.value hubs further 1 ∙ ap (λ k. comes_in b m hubs (noted_at k f further) t 1) next)
-            ∙ ap (λ k. out_of b m hubs r (comes_in b m hubs (noted_at (suc at) f further) t 1) k) (sym (get_other (suc at) 0 f further (λ q. absurd (omega (arith, q)))));
-        notes = λ ks.
-            ap (λ l. notes_then (b.recorded r ∷ l) ks) rec.notes
-            ∙ noted_then (suc at) g f (b.recorded rec.there.machine) (b.recorded r ∷ notes_of b t) ks rec.note (law.composes rec.there.machine rec.there.asked rec.there.sent rec.after rec.made);
-        nodes = ap (λ l. suc (length l)) rec.notes ∙ ap suc (length_noted at g (notes_of b t));
-      };
-      balance = λ s k. step_balanced b P law.counts r t at t' h s k;
+      chosen = row_chosen b m P front back law r t t' at h;
+      balance = λ s k. step_balanced b P counts r t at t' h s k;
     }
 
-pub tree_noted : {M T : Type 0} (b : Machine M T) (m : Meaning T) (P : Step M) (front back : M → Note → Note) → IsNoting b m P front back → (old : Node M) (e : EdgeView) (at : ℕ) (new : Node M) → IsSteppedAt P b.ended old e at new → IsTreeNoted b m P back old e at new
-tree_noted b m P front back law old e zero new h = root_noted b m P front back law old.machine new.machine old.inputs new.inputs e h.live h.made h.inputs
-tree_noted {M} b m P front back law old e (suc at) new h =
+pub tree_noted : {M T : Type 0} (b : Machine M T) (m : Meaning T) (P : Step M) (front back : M → Note → Note) → IsNoting b m P front back → IsCountingStep b P → (old : Node M) (e : EdgeView) (at : ℕ) (new : Node M) → IsSteppedAt P b.ended old e at new → IsTreeNoted b m P back old e at new
+tree_noted b m P front back law counts old e zero new h = root_noted b m P front back law counts old.machine new.machine old.inputs new.inputs e h.live h.made h.inputs
+tree_noted {M} b m P front back law counts old e (suc at) new h =
     let R : M → Type 0 = λ r. IsTreeNoted b m P back old e (suc at) (node r new.inputs) in
-    subst R (sym h.machine) (below_noted b m P front back law old.machine old.inputs new.inputs e at h.made)
+    subst R (sym h.machine) (below_noted b m P front back law counts old.machine old.inputs new.inputs e at h.made)
 
 -- a step, by what it is besides
 stepped_as : {M : Type 0} (P Q : Step M) (ends : M → Bool) → ((n : M) (asked sent : ℕ) (n' : M) → P n asked sent n' → Q n asked sent n') → (t : Inputs M) (at : ℕ) (t' : Inputs M) → IsStepped P ends t at t' → IsStepped Q ends t at t'
@@ -372,7 +385,7 @@ stepped_tree_as P Q ends law old e zero new h = record { live = h.live; made = l
 stepped_tree_as P Q ends law old e (suc at) new h = record { machine = h.machine; made = stepped_as P Q ends law old.inputs at new.inputs h.made }
 
 pub picked_noted : {M T : Type 0} (b : Machine M T) (m : Meaning T) (i : ℕ) (old : Node M) (e : EdgeView) (at : ℕ) (new : Node M) → IsSteppedAt (IsPickedHere b m i) b.ended old e at new → IsTreeNoted b m (IsPickedHere b m i) (λ n k. note_then k (b.recording n i)) old e at new
-picked_noted b m i old e at new h = tree_noted b m (IsPickedHere b m i) (λ n k. note_then (b.recording n i) k) (λ n k. note_then k (b.recording n i)) (pick_notes b m i) old e at new h
+picked_noted b m i old e at new h = tree_noted b m (IsPickedHere b m i) (λ n k. note_then (b.recording n i) k) (λ n k. note_then k (b.recording n i)) (pick_notes b m i) (λ n a s n' p. p.counts) old e at new h
 
 pub picked_effect : {M T : Type 0} (b : Machine M T) (m : Meaning T) (i : ℕ) (old : Node M) (e : EdgeView) (at : ℕ) (new : Node M) → IsSteppedAt (IsPickedHere b m i) b.ended old e at new → IsPickedAt b old e at i new
 picked_effect b m i old e at new h =
@@ -390,7 +403,7 @@ pub picked_enabled : {M T : Type 0} (b : Machine M T) (m : Meaning T) (i : ℕ) 
 picked_enabled b m i old e at new h = let k = picked_noted b m i old e at new h in ap (can_pick_in b i) k.is ∙ (ap (λ l. l && b.picks k.there.machine i k.there.asked k.there.sent) k.live ∙ k.made.can)
 
 pub row_noted : {M T : Type 0} (b : Machine M T) (m : Meaning T) (old : Node M) (e : EdgeView) (at : ℕ) (new : Node M) → IsSteppedAt (IsRowMadeHere b m) b.ended old e at new → IsTreeNoted b m (IsRowMadeHere b m) (λ n k. k) old e at new
-row_noted b m old e at new h = tree_noted b m (IsRowMadeHere b m) (λ n k. k) (λ n k. k) (row_notes b m) old e at new h
+row_noted b m old e at new h = tree_noted b m (IsRowMadeHere b m) (λ n k. k) (λ n k. k) (row_notes b m) (λ n a s n' p. p.counts) old e at new h
 
 pub row_effect : {M T : Type 0} (b : Machine M T) (m : Meaning T) (old : Node M) (e : EdgeView) (at : ℕ) (new : Node M) → IsSteppedAt (IsRowMadeHere b m) b.ended old e at new → IsRowAt b old e at new
 row_effect b m old e at new h =

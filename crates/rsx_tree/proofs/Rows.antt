@@ -4,11 +4,12 @@ use Rattle.std.proofs.lemmas.List.{map-append}
 use Rattle.rsx_types.proofs.Options.{nothing_in_front}
 use Rattle.rsx_sources.specs.Prelude.{Meaning, Stream, signal_then, Note, Signal, LetsGo, TakesIn, incoming_of, in_front, in_front_at}
 use Rattle.rsx_sources.specs.declared.machine.Machine.{Ghosts as Machine}
+use Rattle.rsx_tree.specs.declared.edge.Edge.{Edge}
 use Rattle.rsx_tree.specs.declared.inputs.Inputs.{Inputs, End, More'}
 use Rattle.rsx_tree.specs.Edges.{closed_view}
 use Rattle.rsx_tree.specs.Inputs.{size, edges, notes_of, comes_in, through, out_of, beside_of, is_own, closed_row, closed_row_if}
 use Rattle.rsx_tree.proofs.Closes.{size_closed, size_closed_if}
-use Rattle.rsx_tree.specs.Changed.{IsChanged, IsSentOver, IsPassedOn}
+use Rattle.rsx_tree.specs.Changed.{Change, IsChanged, IsSentOver, IsPassedOn}
 
 pub then_same : {A B : Type 0} (f g : A → Option B) → ((a : A) → f a ≡ g a) → (o : Option A) → option_and_then f o ≡ option_and_then g o
 then_same f g e None = refl
@@ -66,24 +67,35 @@ map_more : {A : Type 0} (before : List A) (v : A) (o : Option (List A)) → opti
 map_more before v None = refl
 map_more before v (Some vs) = ap Some (sym (append_assoc before (v ∷ []) vs))
 
-pub size_sent : {M T : Type 0} (b : Machine M T) (m : Meaning T) (ends : M → Bool) (r : M) (i asked sent : ℕ) (t : Inputs M) (at : ℕ) (r' : M) (t' : Inputs M) → IsChanged (IsSentOver b m) ends r i asked sent t at r' t' → size t' ≡ size t
-size_sent b m ends r i asked sent End at r' t' h = absurd h
-size_sent b m ends r i asked sent (More' e n p below q beside) at r' t' h = elim h [
+-- what is left of a Send once its sender recorded what goes with the signal: that came out of the sender, and into the receiver
+pub record IsGoneOver {M T : Type 0} (b : Machine M T) (m : Meaning T) (r : M) (i asked sent : ℕ) (e : Edge) (n r' : M) (e' : Edge) (n' : M) : Type 0 where
+  pub signal : Signal T
+  pub gone : LetsGo (b.comes_out m) n signal n'
+  pub taken : TakesIn (b.comes_out m) r i signal r'
+  pub receiver : b.recorded r' ≡ b.recorded r
+  pub sender : b.recorded n' ≡ b.recorded n
+
+pub size_changed : {M : Type 0} (P : Change M) (ends : M → Bool) (r : M) (i asked sent : ℕ) (t : Inputs M) (at : ℕ) (r' : M) (t' : Inputs M) → IsChanged P ends r i asked sent t at r' t' → size t' ≡ size t
+size_changed P ends r i asked sent End at r' t' h = absurd h
+size_changed P ends r i asked sent (More' e n p below q beside) at r' t' h = elim h [
   | inl x ↦ ap size x.new_is
   | inr y ↦ elim y [
-    | inl x ↦ ap size x.new_is ∙ ap (λ k. k + size beside + 1) (size_closed_if _ x.mid ∙ size_sent b m ends n 0 e.demand.asked e.demand.sent below (at - 1) x.n' x.mid x.made)
-    | inr x ↦ ap size x.new_is ∙ ap (λ k. size below + k + 1) (size_sent b m ends r (i + 1) asked sent beside (at - 1 - size below) r' x.beside' x.made)
+    | inl x ↦ ap size x.new_is ∙ ap (λ k. k + size beside + 1) (size_closed_if _ x.mid ∙ size_changed P ends n 0 e.demand.asked e.demand.sent below (at - 1) x.n' x.mid x.made)
+    | inr x ↦ ap size x.new_is ∙ ap (λ k. size below + k + 1) (size_changed P ends r (i + 1) asked sent beside (at - 1 - size below) r' x.beside' x.made)
   ]
 ]
 
-pub recorded_sent : {M T : Type 0} (b : Machine M T) (m : Meaning T) (ends : M → Bool) (r : M) (i asked sent : ℕ) (t : Inputs M) (at : ℕ) (r' : M) (t' : Inputs M) → IsChanged (IsSentOver b m) ends r i asked sent t at r' t' → b.recorded r' ≡ b.recorded r
+pub size_sent : {M T : Type 0} (b : Machine M T) (m : Meaning T) (ends : M → Bool) (r : M) (i asked sent : ℕ) (t : Inputs M) (at : ℕ) (r' : M) (t' : Inputs M) → IsChanged (IsSentOver b m) ends r i asked sent t at r' t' → size t' ≡ size t
+size_sent b m ends r i asked sent t at r' t' h = size_changed (IsSentOver b m) ends r i asked sent t at r' t' h
+
+pub recorded_sent : {M T : Type 0} (b : Machine M T) (m : Meaning T) (ends : M → Bool) (r : M) (i asked sent : ℕ) (t : Inputs M) (at : ℕ) (r' : M) (t' : Inputs M) → IsChanged (IsGoneOver b m) ends r i asked sent t at r' t' → b.recorded r' ≡ b.recorded r
 recorded_sent b m ends r i asked sent End at r' t' h = absurd h
 recorded_sent b m ends r i asked sent (More' e n p below q beside) at r' t' h = elim h [
   | inl x ↦ x.made.receiver
   | inr y ↦ elim y [ inl x ↦ ap (λ s. b.recorded s) x.receiver | inr x ↦ recorded_sent b m ends r (i + 1) asked sent beside (at - 1 - size below) r' x.beside' x.made ]
 ]
 
-pub notes_sent : {M T : Type 0} (b : Machine M T) (m : Meaning T) (ends : M → Bool) (r : M) (i asked sent : ℕ) (t : Inputs M) (at : ℕ) (r' : M) (t' : Inputs M) → IsChanged (IsSentOver b m) ends r i asked sent t at r' t' → notes_of b t' ≡ notes_of b t
+pub notes_sent : {M T : Type 0} (b : Machine M T) (m : Meaning T) (ends : M → Bool) (r : M) (i asked sent : ℕ) (t : Inputs M) (at : ℕ) (r' : M) (t' : Inputs M) → IsChanged (IsGoneOver b m) ends r i asked sent t at r' t' → notes_of b t' ≡ notes_of b t
 notes_sent b m ends r i asked sent End at r' t' h = absurd h
 notes_sent b m ends r i asked sent (More' e n p below q beside) at r' t' h = elim h [
   | inl x ↦ ap (notes_of b) x.new_is ∙ ap (λ k. k ∷ (notes_of b below ++ notes_of b beside)) x.made.sender
@@ -95,7 +107,7 @@ notes_sent b m ends r i asked sent (More' e n p below q beside) at r' t' h = eli
   ]
 ]
 
-pub passed_on : {M T : Type 0} (b : Machine M T) (m : Meaning T) (ends : M → Bool) (r : M) (i asked sent : ℕ) (t : Inputs M) (at : ℕ) (r' : M) (t' : Inputs M) → IsChanged (IsSentOver b m) ends r i asked sent t at r' t' → IsPassedOn b m i r t r' t'
+pub passed_on : {M T : Type 0} (b : Machine M T) (m : Meaning T) (ends : M → Bool) (r : M) (i asked sent : ℕ) (t : Inputs M) (at : ℕ) (r' : M) (t' : Inputs M) → IsChanged (IsGoneOver b m) ends r i asked sent t at r' t' → IsPassedOn b m i r t r' t'
 passed_on b m ends r i asked sent End at r' t' h before len hubs further pos k = absurd h
 passed_on {M} {T} b m ends r i asked sent (More' e n p below q beside) at r' t' h before len hubs further pos k = elim h [
   | inl x ↦
@@ -111,7 +123,7 @@ passed_on {M} {T} b m ends r i asked sent (More' e n p below q beside) at r' t' 
         let kk = slice_get further pos in
         let made = x.made in
         let rec = passed_on b m ends n 0 e.demand.asked e.demand.sent below (at - 1) x.n' x.mid made in
-        let same_size : size shut ≡ size below = size_closed_if _ x.mid ∙ size_sent b m ends n 0 e.demand.asked e.demand.sent below (at - 1) x.n' x.mid made in
+        let same_size : size shut ≡ size below = size_closed_if _ x.mid ∙ size_changed (IsGoneOver b m) ends n 0 e.demand.asked e.demand.sent below (at - 1) x.n' x.mid made in
         let same_in : comes_in b m hubs further shut (pos + 1) ≡ comes_in b m hubs further x.mid (pos + 1) = comes_in_closed_if b m hubs further _ x.mid (pos + 1) in
         let same_out : out_of b m hubs x.n' (comes_in b m hubs further x.mid (pos + 1)) kk ≡ out_of b m hubs n (comes_in b m hubs further below (pos + 1)) kk =
         then_same _ _ (λ c. ap (λ o. through b m hubs x.n' o c) (sym (nothing_in_front (comes_in b m hubs further x.mid (pos + 1)))) ∙ (rec [] refl hubs further (pos + 1) c ∙ ap (λ o. through b m hubs n o c) (nothing_in_front (comes_in b m hubs further below (pos + 1))))) kk in

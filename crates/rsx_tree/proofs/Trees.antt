@@ -1,6 +1,6 @@
 -- A tree from its root and the row of its inputs.
-use Rattle.std.proofs.Common.{◌≡◌, ℕ, ◌+◌, Bool, true, false, ◌&&◌, List, [], ◌∷◌, map, refl, ap, sym, ◌∙◌, subst, Option, Some, None, slice_get}
-use Rattle.rsx_sources.specs.Prelude.{Meaning, Signal, CountsOut, IsPopped as IsPoppedHere}
+use Rattle.std.proofs.Common.{◌≡◌, ℕ, ◌+◌, Bool, true, false, ◌&&◌, List, [], ◌∷◌, map, refl, ap, sym, ◌∙◌, subst, Option, slice_get}
+use Rattle.rsx_sources.specs.Prelude.{Meaning}
 use Rattle.rsx_sources.specs.declared.machine.Machine.{Ghosts as Machine}
 use Rattle.rsx_tree.specs.declared.edge.EdgeState.{EdgeState}
 use Rattle.rsx_tree.specs.declared.edge.EdgeState.TheVariants.{Live, Closed, Ended}
@@ -11,14 +11,11 @@ use Rattle.rsx_tree.specs.declared.inputs.Inputs.{Inputs}
 use Rattle.rsx_tree.specs.declared.inputs.Inputs.TheViews.{More}
 use Rattle.rsx_tree.proofs.Changes.{Rest}
 use Rattle.rsx_tree.specs.declared.node.Node.{Node}
-use Rattle.rsx_tree.specs.Allocates.{IsNodeAlike}
 use Rattle.rsx_tree.specs.Edges.{EdgeView, can_ask_for, closed_if, closed_view, closed_state}
 use Rattle.rsx_tree.specs.Inputs.{Place, place, comes_in, through, out_of, notes_of, edges as edges_in, is_own, closed_row, closed_row_if, can_ask_in, can_send_in, can_send_over, sent_edges}
 use Rattle.rsx_tree.specs.Changed.{IsChanged, IsAskedOver, IsSentOver}
-use Rattle.rsx_tree.specs.Tree.{IsKept, IsPopped, IsSentAt, IsAskedAt, IsJoined, NoneLive, ended_in}
-use Rattle.rsx_tree.proofs.Alike.{popped_alike}
-use Rattle.rsx_tree.proofs.Balances.{tree_pop_balanced}
-use Rattle.rsx_tree.proofs.Rows.{out_lets_go, then_same, passed_on, notes_sent, recorded_sent, notes_closed, notes_closed_if, comes_in_closed, comes_in_closed_if}
+use Rattle.rsx_tree.specs.Tree.{IsKept, IsSentAt, IsAskedAt, IsJoined, NoneLive, ended_in}
+use Rattle.rsx_tree.proofs.Rows.{IsGoneOver, then_same, passed_on, notes_sent, recorded_sent, notes_closed, notes_closed_if, comes_in_closed, comes_in_closed_if}
 use Rattle.rsx_tree.proofs.Effects.{Found, found, row_asked, row_sent, edges_closed_if, ended_closed_if, own_ended, same_close}
 
 abbrev pub node : {M : Type 0} → M → Inputs M → Node M
@@ -59,8 +56,9 @@ can_send_found b m o f = ap (can_send_in b m) f.is ∙ (ap (λ e. can_send_over 
 pub can_sent : {M T : Type 0} (b : Machine M T) (m : Meaning T) (r r' : M) (at : ℕ) (t t' : Inputs M) → IsChanged (IsSentOver b m) b.ended r 0 0 0 t at r' t' → can_send_in b m (place r 0 0 0 t at) ≡ true
 can_sent b m r r' at t t' h = can_send_found b m _ (found (IsSentOver b m) b.ended r 0 0 0 t at r' t' h)
 
-pub kept_sent : {M T : Type 0} (b : Machine M T) (m : Meaning T) (r r' : M) (at : ℕ) (t mid t' : Inputs M) (c : Bool) → IsChanged (IsSentOver b m) b.ended r 0 0 0 t at r' mid → t' ≡ closed_row_if c mid → IsKept b m (node r t) (node r' t')
-kept_sent {M} b m r r' at t mid t' c h is =
+-- what a Send leaves once its sender recorded what goes with the signal
+pub kept_gone : {M T : Type 0} (b : Machine M T) (m : Meaning T) (r r' : M) (at : ℕ) (t mid t' : Inputs M) (c : Bool) → IsChanged (IsGoneOver b m) b.ended r 0 0 0 t at r' mid → t' ≡ closed_row_if c mid → IsKept b m (node r t) (node r' t')
+kept_gone {M} b m r r' at t mid t' c h is =
     let Q : Inputs M → Type 0 = λ u. IsKept b m (node r t) (node r' u) in
     let on = passed_on b m b.ended r 0 0 0 t at r' mid h in
     subst Q (sym is) (record {
@@ -102,19 +100,4 @@ joined t beside e below others a s l b o = record {
   asked = a;
   sent = s;
   live = l;
-}
-
--- what the root let go came out of the tree
-pub popped_tree : {M T : Type 0} (b : Machine M T) (m : Meaning T) (n n' : M) (t : Inputs M) (o : Option (Signal T)) → IsPoppedHere (b.comes_out m) b.popped (b.waiting m n) n o n' → b.recorded n' ≡ b.recorded n → CountsOut b.counted b.ended b.done n o n' → IsNodeAlike b n n' → IsPopped b m (node n t) o (node n' t)
-popped_tree b m n n' t None h recorded counts alike = (h.0, ap (λ k. node k t) h.1)
-popped_tree b m n n' t (Some s) h recorded counts alike = record {
-  offered = h.0;
-  popped = (h.1, refl);
-  lets_go = h.2;
-  node = alike;
-  counts = counts;
-  value = λ hubs further at. out_lets_go b m hubs n n' s h.2 (comes_in b m hubs further t (at + 1)) (slice_get further at);
-  notes = ap (λ k. k ∷ notes_of b t) recorded;
-  balance = λ sent k. tree_pop_balanced b n n' t s sent counts k;
-  alike = popped_alike b n n' t alike;
 }

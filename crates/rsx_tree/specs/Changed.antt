@@ -1,7 +1,7 @@
 -- How a move changes a row of inputs: one edge and the nodes at its ends, and nothing else.
-use Rattle.std.specs.Prelude.{◌≡◌, ◌⊎◌, Box, ℕ, ◌+◌, ◌-◌, ◌<◌, ◌≤◌, Bool, true, false, ◌&&◌, List, ◌++◌, length, Some, option_map}
+use Rattle.std.specs.Prelude.{◌≡◌, ◌⊎◌, Box, ℕ, ◌+◌, ◌-◌, ◌<◌, ◌≤◌, Bool, true, false, ◌&&◌, List, ◌++◌, length, Option, Some, None, option_map}
 use Rattle.std.specs.declared.alloc.Global.{Global}
-use Rattle.rsx_sources.specs.Prelude.{Meaning, Stream, Note, Signal, CountsIn, CountsOut, LetsGo, TakesIn, front_of, IsNotMade}
+use Rattle.rsx_sources.specs.Prelude.{Meaning, Stream, Note, Signal, CountsIn, CountsOut, IsReady, LetsGo, TakesIn, front_of, IsNotMade}
 use Rattle.rsx_sources.specs.declared.machine.Machine.{Ghosts as Machine}
 use Rattle.rsx_sources.specs.declared.machine.NotMade.{NotMade}
 use Rattle.rsx_tree.specs.declared.edge.Edge.{Edge}
@@ -25,17 +25,26 @@ pub record IsAskedOver {M T : Type 0} (b : Machine M T) (r : M) (i asked sent : 
   pub receiver : r' ≡ r
   pub sender : n' ≡ n
 
--- a Send: the signal that the sender offered came out of it, went over the edge, and came into the receiver
+-- a node as it stands once it recorded the note that goes with a signal out of it; with no note it is as it was
+abbrev pub IsReadyBy : {M T : Type 0} → Machine M T → Meaning T → Option Note → M → M → Type 0
+IsReadyBy b m None n ready = ready ≡ n
+IsReadyBy b m (Some k) n ready = IsReady (b.comes_out m) b.recorded b.ended n k ready
+
+-- a Send: the signal that the sender offered came out of it, which recorded it where there is a note, went over the edge, and came into
+-- the receiver
 pub record IsSentOver {M T : Type 0} (b : Machine M T) (m : Meaning T) (r : M) (i asked sent : ℕ) (e : Edge) (n r' : M) (e' : Edge) (n' : M) : Type 0 where
   pub signal : Signal T
   pub can : can_send_over b m r i (edge_view e) n ≡ true
   pub offered : b.waiting m n ≡ Some signal
   pub popped : b.popped n signal n'
-  pub gone : LetsGo (b.comes_out m) n signal n'
+  pub note : Option Note
+  pub ready : M
+  pub noted : IsReadyBy b m note n ready
+  pub gone : LetsGo (b.comes_out m) ready signal n'
   pub taken : TakesIn (b.comes_out m) r i signal r'
   pub edge : edge_view e' ≡ passed (edge_view e) (front_of signal)
   pub receiver : b.recorded r' ≡ b.recorded r
-  pub sender : b.recorded n' ≡ b.recorded n
+  pub sender : b.recorded n' ≡ b.recorded ready
   pub counts_in : CountsIn b.counted b.ended b.done r i signal r'
   pub counts_out : CountsOut b.counted b.ended b.done n (Some signal) n'
   pub alike_in : IsNodeAlike b r r'

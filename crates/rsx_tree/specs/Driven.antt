@@ -14,7 +14,7 @@ use Rattle.rsx_tree.specs.Changed.{Hold, IsAskedIn, IsSentIn}
 use Rattle.rsx_tree.specs.Chosen.{IsChosen}
 use Rattle.rsx_tree.specs.Runs.{LeadsBy}
 use Rattle.rsx_tree.specs.Stepped.{IsStepped, IsPickedHere, IsRowMadeHere, IsStill, over, station}
-use Rattle.rsx_tree.specs.Tree.{IsKept, IsAskedAt, IsSentAt, can_ask, can_send}
+use Rattle.rsx_tree.specs.Tree.{IsAskedAt, IsSentAt, can_ask, can_send}
 
 -- ---- a move of a row, whose first edge is input `i` of `r`; `ends` says that `r` ended by it, so that its owner closes the row
 
@@ -106,8 +106,6 @@ pub record IsAdvanced {M T : Type 0} (b : Machine M T) (m : Meaning T) (steps : 
   pub made : ((can_ask b old at asked sent ≡ true) × IsAskedAt b old at asked sent new)
       ⊎ (((can_send b m old at ≡ true) × IsSentAt b m old at new)
       ⊎ ((steps ≡ true) × IsStepMade b m old.machine old.inputs at false new.machine new.inputs))
-  -- nothing is chosen but by picks
-  pub kept : steps ≡ false → IsKept b m old new
   pub chosen : IsChosen b m old new
   pub balance : (s : ℕ) → IsBalanced b old s → IsBalanced b new s
   pub alike : IsAlike b old new

@@ -1,6 +1,6 @@
 -- An item that is pulled through a tree in one go: the moves that lead to a tree whose root offers it, and then the item out.
 use Rattle.std.specs.Prelude.{◌≡◌, ◌⊎◌, ℕ, ◌+◌, ◌<◌, true, false, Option, Some, None}
-use Rattle.rsx_sources.specs.Prelude.{Meaning, Next, IsItemOut}
+use Rattle.rsx_sources.specs.Prelude.{Meaning, Next, Note, CountsOut, LetsGo}
 use Rattle.rsx_sources.specs.declared.machine.Machine.{Ghosts as Machine}
 use Rattle.rsx_tree.specs.declared.edge.Edge.{Edge}
 use Rattle.rsx_tree.specs.declared.fetch.Handed.{Handed}
@@ -11,16 +11,24 @@ use Rattle.rsx_tree.specs.declared.inputs.Inputs.{Inputs, More'}
 use Rattle.rsx_tree.specs.declared.node.Node.{Node}
 use Rattle.rsx_tree.specs.Allocates.{IsAlike, IsNodeAlike}
 use Rattle.rsx_tree.specs.Balance.{IsBalanced}
-use Rattle.rsx_tree.specs.Changed.{Hold, IsCarried}
+use Rattle.rsx_tree.specs.Changed.{Hold, IsCarried, IsReadyBy}
 use Rattle.rsx_tree.specs.Chosen.{IsChosen, IsPickedAt, IsRowAt}
 use Rattle.rsx_tree.specs.Driven.{IsDriven, IsRowRun}
 use Rattle.rsx_tree.specs.Edges.{EdgeView}
 use Rattle.rsx_tree.specs.Stepped.{IsPickMadeAt, IsRowMadeAt, IsStepOf, IsStepOver, can_pick_in, can_row_in, station_of}
 use Rattle.rsx_tree.specs.Tree.{IsLetGo}
 
--- the item that waited in a node went out of it, and the same of its calls may allocate
-abbrev pub IsOut : {M T : Type 0} → Machine M T → Meaning T → M → T → M → Type 0
-IsOut b m n x n' = IsItemOut (b.comes_out m) (b.waiting m) b.popped b.recorded b.counted b.ended b.done n x n' × IsNodeAlike b n n'
+-- the item that waited in a node went out of it, which recorded it where there is a note, and the same of its calls may allocate
+pub record IsOut {M T : Type 0} (b : Machine M T) (m : Meaning T) (n : M) (x : T) (n' : M) : Type 0 where
+  pub waited : b.waiting m n ≡ Some (Next x)
+  pub popped : b.popped n (Next x) n'
+  pub note : Option Note
+  pub ready : M
+  pub noted : IsReadyBy b m note n ready
+  pub value : LetsGo (b.comes_out m) ready (Next x) n'
+  pub notes : b.recorded n' ≡ b.recorded ready
+  pub counts : CountsOut b.counted b.ended b.done n (Some (Next x)) n'
+  pub alike : IsNodeAlike b n n'
 
 -- a pick or a row was made of a node whose edge is live, and then the item that waited in it went out; where the node ended by it,
 -- all below it is closed. With no item nothing has changed.

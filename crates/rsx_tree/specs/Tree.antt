@@ -1,6 +1,6 @@
 -- One tree of nodes: what still comes out of it, what it recorded, and its moves.
-use Rattle.std.specs.Prelude.{◌≡◌, ℕ, ◌+◌, Bool, false, ◌&&◌, nat_eq, nat_le, if◌then◌else◌, ◌-◌, List, [], ◌∷◌, Option, Some, None, option_map, slice_get}
-use Rattle.rsx_sources.specs.Prelude.{Meaning, Allocates, CountsOut, unchosen, LetsGo, Stream, signal_then, Note, Signal, front_of}
+use Rattle.std.specs.Prelude.{◌≡◌, ℕ, ◌+◌, Bool, true, false, ◌&&◌, nat_eq, nat_le, if◌then◌else◌, ◌-◌, List, [], ◌∷◌, length, Option, Some, None, option_map, slice_get}
+use Rattle.rsx_sources.specs.Prelude.{Meaning, Allocates, CountsOut, ends_input, notes_then, unchosen, LetsGo, Stream, signal_then, Note, Signal, front_of}
 use Rattle.rsx_sources.specs.declared.machine.Front.{Front}
 use Rattle.rsx_sources.specs.declared.machine.Machine.{Ghosts as Machine}
 use Rattle.rsx_tree.specs.declared.edge.Edge.{Edge}
@@ -9,7 +9,7 @@ use Rattle.rsx_tree.specs.declared.inputs.Inputs.{Inputs, End, More'}
 use Rattle.rsx_tree.specs.declared.node.Node.{Node}
 use Rattle.rsx_tree.specs.Allocates.{IsAlike, IsNodeAlike}
 use Rattle.rsx_tree.specs.Balance.{IsBalanced, IsBalancedAfter}
-use Rattle.rsx_tree.specs.Changed.{Hold, IsChanged, IsSentOver}
+use Rattle.rsx_tree.specs.Changed.{Hold, IsChanged, IsReadyBy, IsSentOver}
 use Rattle.rsx_tree.specs.Edges.{EdgeView, asked_up_to, changed_at, closed_if}
 use Rattle.rsx_tree.specs.Inputs.{Place, place, size, is_own, closed_row_if, comes_in, out_of, notes_of, edges as edges_in, can_ask_in, can_send_in, wanted_at, send_allocates_in, sent_edges, with_edge_at, IsUnchosen as IsUnchosenIn}
 
@@ -52,17 +52,28 @@ pub record IsKept {M T : Type 0} (b : Machine M T) (m : Meaning T) (old new : No
   pub value : (hubs : List (Stream T)) (further : List Note) (at : ℕ) → comes_out b m hubs further new at ≡ comes_out b m hubs further old at
   pub notes : notes b new ≡ notes b old
 
--- the signal came out, and then the rest comes out of the second tree
+-- the signal came out, and then the rest comes out of the second tree; where the root recorded it, that choice comes first
 pub record IsLetGo {M T : Type 0} (b : Machine M T) (m : Meaning T) (old : Node M) (s : Signal T) (new : Node M) : Type 0 where
   pub offered : offers b m old ≡ Some s
   pub popped : popped b old s new
-  -- the signal came out of the root, whatever comes in below it, and the root's calls may allocate as before
-  pub lets_go : LetsGo (b.comes_out m) old.machine s new.machine
+  -- the signal came out of the root, which recorded it where there is a note, whatever comes in below it, and the root's calls may
+  -- allocate as before
+  pub note : Option Note
+  -- an ending isn't recorded
+  pub ending : ends_input s ≡ true → note ≡ None
+  pub ready : M
+  pub noted : IsReadyBy b m note old.machine ready
+  pub lets_go : LetsGo (b.comes_out m) ready s new.machine
+  pub recorded : b.recorded new.machine ≡ b.recorded ready
   pub node : IsNodeAlike b old.machine new.machine
   -- an item counts as sent by it
   pub counts : CountsOut b.counted b.ended b.done old.machine (Some s) new.machine
-  pub value : (hubs : List (Stream T)) (further : List Note) (at : ℕ) → comes_out b m hubs further old at ≡ option_map (signal_then s) (comes_out b m hubs further new at)
-  pub notes : notes b new ≡ notes b old
+  -- what was recorded stands in front of what is still chosen, and behind what was recorded before
+  pub choose : List Note → List Note
+  pub count : (further : List Note) → length (choose further) ≡ length further
+  pub value : (hubs : List (Stream T)) (further : List Note) → comes_out b m hubs (choose further) old 0 ≡ option_map (signal_then s) (comes_out b m hubs further new 0)
+  pub nodes : length (notes b new) ≡ length (notes b old)
+  pub notes : (further : List Note) → notes_then (notes b new) further ≡ notes_then (notes b old) (choose further)
   pub balance : (sent : ℕ) → IsBalanced b old sent → IsBalancedAfter b s new sent
   pub alike : IsAlike b old new
 

@@ -45,7 +45,8 @@ impl<M: Machine> Node<M> {
         self.machine.front()
     }
 
-    /// Takes the signal that the root offers. For want of memory the tree is as it was.
+    /// Takes the signal that the root offers, which the root records where it does so ([`Machine::records_pop`]). For want of
+    /// memory the tree is as it was.
     #[inline]
     pub fn pop<O: Ops<Item = M::Item>>(
         &mut self,
@@ -101,14 +102,15 @@ impl<M: Machine> Node<M> {
         }
     }
 
-    /// Moves the signal that the edge `at` below the root can carry to its receiver.
+    /// Moves the signal that the edge `at` below the root can carry to its receiver. A sender that records its signals as they go
+    /// out records it.
     pub fn send<O: Ops<Item = M::Item>>(
         &mut self,
         alloc: Global,
         ops: &O,
         at: u32,
     ) -> Result<(), NotMade>
-        ensures kept { OnOk result (IsKept M.Machine (O.meaning ops.now) self.old self.new) }
+        ensures chosen { OnOk result (IsChosen M.Machine (O.meaning ops.now) self.old self.new) }
         ensures ok { OnOk result (can_send M.Machine (O.meaning ops.now) self.old at ≡ true) }
         ensures effect { OnOk result (IsSentAt M.Machine (O.meaning ops.now) self.old at self.new) }
         ensures balance { OnOk result ((s : ℕ) → IsBalanced M.Machine self.old s → IsBalanced M.Machine self.new s) }

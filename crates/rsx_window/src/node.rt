@@ -111,6 +111,8 @@ impl<T: Drop> Machine for WindowNode<T> {
 
     ghost recorded = { λ n. Nothing };
 
+    ghost popping = { λ n. None };
+
     ghost ended = { window_ended };
 
     ghost done = { window_done };
@@ -160,6 +162,10 @@ impl<T: Drop> Machine for WindowNode<T> {
             }
             None => Ok(None),
         }
+    }
+
+    fn records_pop(&self) -> bool {
+        false
     }
 
     fn put_back(&mut self, signal: Signal<T>)

@@ -2,6 +2,7 @@ use Rattle.std.proofs.Common.{arith, rules}
 use Rattle.rsx_types.specs.declared.signal.Signal.TheVariants.{Next}
 use Rattle.rsx_tree.proofs.Alike.{alike_before}
 use Rattle.rsx_tree.proofs.Fetches.{sent_over}
+use Rattle.rsx_tree.proofs.Popped.{unrecorded_out}
 use Rattle.rsx_tree.proofs.fetch.hand_over.Goals as goal
 
 pub returns-in-Item : goal.returns-in-Item
@@ -15,7 +16,7 @@ returns-in-Item g c = λ offering out.
       omega (arith, some),
       sent_over g.M.Machine m c.args.receiver.now c.args.input c.args.edge.now offering p.0 c.carry.new.self c.args.sender.now c.args.item out p.1 first c.requires c.carry.ensures,
       p.1.goes_on,
-      (p.2, last),
+      unrecorded_out g.M.Machine m p.0 c.pass.new.self c.in-Item.item p.2 last,
     )
 
 pub returns-then-left-eq0 : goal.returns-then-left-eq0

@@ -1,4 +1,5 @@
 use Rattle.std.proofs.lemmas.Result.{IfOk-weaker}
+use Rattle.rsx_kinds.specs.Prelude.{eager_popping, eager_waiting}
 use Rattle.rsx_kinds.proofs.Dispatch.{popped_source, popped_several, popped_publish_on, popped_window, popped_flat_map, popped_flat_map_delay, popped_publish_on_eager, popped_group_by, counted_source, counted_several, counted_publish_on, counted_window, counted_flat_map, counted_flat_map_delay, counted_publish_on_eager, counted_group_by}
 use Rattle.rsx_kinds.proofs.any_node.AnyNodeMachine.pop_front.Goals as goal
 
@@ -44,7 +45,9 @@ returns-in-FlatMapDelay-clause-ok g c =
 
 pub returns-in-PublishOnEager-clause-ok : goal.returns-in-PublishOnEager-clause-ok
 returns-in-PublishOnEager-clause-ok g c =
-    rw c.in-PublishOnEager.is (IfOk-weaker c.pop_front-in-PublishOnEager.result _ _ (λ s. popped_publish_on_eager (g.O.Ops.meaning c.args.ops.now) c.in-PublishOnEager.node c.pop_front-in-PublishOnEager.new.self s) c.pop_front-in-PublishOnEager.ensures.ok)
+    let m = g.O.Ops.meaning c.args.ops.now in
+    let old = c.in-PublishOnEager.node in
+    rw c.in-PublishOnEager.is (popped_publish_on_eager m (eager_popping old) (eager_waiting m old) old c.pop_front-in-PublishOnEager.new.self c.pop_front-in-PublishOnEager.result c.pop_front-in-PublishOnEager.ensures.ok)
 
 pub returns-in-FlatMap-clause-counts : goal.returns-in-FlatMap-clause-counts
 returns-in-FlatMap-clause-counts g c =

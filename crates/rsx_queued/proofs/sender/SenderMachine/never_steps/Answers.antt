@@ -1,6 +1,3 @@
-use Rattle.std.proofs.Common.{◌≡◌, false, sym, subst}
-use Rattle.rsx_sources.specs.Counts.{NeverSteps}
-use Rattle.rsx_queued.specs.Sender.{sender_picks, sender_rows}
 use Rattle.rsx_queued.proofs.sender.SenderMachine.never_steps.Goals as goal
 
 pub returns-in-Direct : goal.returns-in-Direct

@@ -1,6 +1,6 @@
-use Rattle.std.proofs.Common.{◌≡◌, ◌+◌, ◌≤◌, rules, ◌∙◌}
+use Rattle.std.proofs.Common.{refl, ◌≡◌, ◌+◌, ◌≤◌, rules, ◌∙◌}
 use Rattle.std.specs.Vec.{vec_len, vec_capacity}
-use Rattle.rsx_tree.specs.Fetched.{IsOut}
+use Rattle.rsx_rooted.specs.Items.{IsOut}
 use Rattle.rsx_rooted.proofs.HubLeaves.{leaf_machine}
 use Rattle.rsx_rooted.proofs.OneByOne.{come, coming_more}
 use Rattle.rsx_rooted.proofs.hub_leaf.HubLeafBatches.take_out.Goals as goal
@@ -10,7 +10,7 @@ pub loop-gone-preserved : goal.loop-gone-preserved
 loop-gone-preserved g c =
     let long : vec_len c.push_reserved.new.self ≡ c.loop-gone.gone + 1 = search rules in
     let room : c.min-fewer.result ≤ vec_capacity c.push_reserved.new.self = search rules in (
-      coming_more (IsOut leaf_machine (g.O.Ops.meaning c.args.ops.now)) c.args.self.now c.loop-gone.self c.pop_item.new.self c.in-Some.item c.loop-gone.out.items c.push_reserved.new.self.items c.loop-gone.invariant.0 (c.in-Some.ensures.some, c.in-Some.ensures.alike) c.push_reserved.ensures.items,
+      coming_more (IsOut leaf_machine (g.O.Ops.meaning c.args.ops.now)) c.args.self.now c.loop-gone.self c.pop_item.new.self c.in-Some.item c.loop-gone.out.items c.push_reserved.new.self.items c.loop-gone.invariant.0 (c.in-Some.ensures.some, c.in-Some.ensures.alike, refl) c.push_reserved.ensures.items,
       long,
       room,
     )

@@ -1,6 +1,6 @@
 use Rattle.std.proofs.Common.{◌≡◌, ◌≤◌}
 use Rattle.std.specs.Vec.{vec_len, vec_capacity}
-use Rattle.rsx_tree.specs.Fetched.{IsOut}
+use Rattle.rsx_rooted.specs.Items.{IsOut}
 use Rattle.rsx_rooted.proofs.HubLeaves.{leaf_machine}
 use Rattle.rsx_rooted.proofs.OneByOne.{IsComing}
 use Rattle.rsx_rooted.proofs.hub_leaf.HubLeafBatches.take_out.Given as goal

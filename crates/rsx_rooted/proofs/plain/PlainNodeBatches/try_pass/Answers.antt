@@ -1,6 +1,6 @@
 use Rattle.std.proofs.Common.{◌≡◌, [], ap, sym, ◌∙◌, refl, subst, rules}
 use Rattle.rsx_plain.specs.declared.node.PlainNode.{PlainNode}
-use Rattle.rsx_tree.specs.Fetched.{IsOut}
+use Rattle.rsx_rooted.specs.Items.{IsOut}
 use Rattle.rsx_rooted.specs.Items.{ArePassed, IsIn}
 use Rattle.rsx_rooted.specs.Machines.{plain_machine}
 use Rattle.rsx_rooted.proofs.OverEdges.{passed_length}

@@ -1,6 +1,6 @@
-use Rattle.std.proofs.Common.{◌≡◌, ◌+◌, ◌≤◌, rules, sym, ◌∙◌, arith}
+use Rattle.std.proofs.Common.{refl, ◌≡◌, ◌+◌, ◌≤◌, rules, sym, ◌∙◌, arith}
 use Rattle.std.specs.Vec.{vec_len, vec_capacity}
-use Rattle.rsx_tree.specs.Fetched.{IsOut}
+use Rattle.rsx_rooted.specs.Items.{IsOut}
 use Rattle.rsx_rooted.specs.Machines.{range_machine}
 use Rattle.rsx_rooted.proofs.OneByOne.{come, coming_more}
 use Rattle.rsx_rooted.proofs.Ranges.{as_many_on, same_range}
@@ -12,7 +12,7 @@ loop-made-preserved g c =
     let room : c.args.most ≤ vec_capacity c.push_reserved.new.self = search rules in
     let popped = c.in-Some.ensures.some.popped_out in
     let on : c.pop_item.new.self.at ≡ c.args.self.now.at + (c.loop-made.made + 1) = omega (arith, popped.2, c.loop-made.invariant.5) in (
-      coming_more (IsOut range_machine (g.O.Ops.meaning c.args.ops.now)) c.args.self.now c.loop-made.node c.pop_item.new.self c.in-Some.item c.loop-made.items.items c.push_reserved.new.self.items c.loop-made.invariant.0 (c.in-Some.ensures.some, c.in-Some.ensures.alike) c.push_reserved.ensures.items,
+      coming_more (IsOut range_machine (g.O.Ops.meaning c.args.ops.now)) c.args.self.now c.loop-made.node c.pop_item.new.self c.in-Some.item c.loop-made.items.items c.push_reserved.new.self.items c.loop-made.invariant.0 (c.in-Some.ensures.some, c.in-Some.ensures.alike, refl) c.push_reserved.ensures.items,
       long,
       room,
       popped.0 ∙ c.loop-made.invariant.3,

@@ -5,6 +5,7 @@ use Rattle.rsx_tree.specs.declared.inputs.Inputs.TheViews.{More}
 use Rattle.rsx_tree.proofs.Changes.{Rest}
 use Rattle.rsx_tree.proofs.Drives.{IsUnderWay, size_run, under_way_asked}
 use Rattle.rsx_tree.proofs.Fetches.{below_smaller, fetched_beside, fetched_none, fetched_then, handed_back, handed_item, handed_kept, pulled_from, pulled_item, pulled_moved, pulled_run, pulled_step, pulled_step_out, run_over}
+use Rattle.rsx_tree.proofs.Popped.{item_out_of}
 use Rattle.rsx_tree.proofs.inputs.Inputs.+fetch.Goals as goal
 
 pub fetch-returns-then-left-eq0 : goal.fetch-returns-then-left-eq0
@@ -127,3 +128,20 @@ pub pull-returns-in-Some-step_item_over : goal.pull-returns-in-Some-step_item_ov
 pull-returns-in-Some-step_item_over g t c =
     let some = c.if-left-eq0.false in
     pulled_step_out g.M.Machine (g.O.Ops.meaning c.args.ops.now) c.args.left.now c.args.edge.now c.args.sender.now c.pop_item.new.self c.step_item_over.new.node c.args.self.now c.step_item_over.new.below c.in-Some-step_item_over.item (omega (arith, some)) c.in_default.ensures.none c.in-Some-step_item_over.ensures.out
+
+pub fetch-items-smaller-in-Kept : goal.fetch-items-smaller-in-Kept
+fetch-items-smaller-in-Kept g t c =
+    let e = c.in-Item.ensures in
+    let h = c.in-Kept.ensures e.1 e.4 in
+    let one = h.0 in
+    let spent = e.2 in
+    omega (arith, one, spent)
+
+pub pull-returns-in-Some : goal.pull-returns-in-Some
+pull-returns-in-Some g t c = (
+  0,
+  c.args.sender.now,
+  omega arith,
+  (λ r i asked sent p q beside. refl),
+  item_out_of g.M.Machine (g.O.Ops.meaning c.args.ops.now) c.args.sender.now c.pop_item.new.self (g.M.Machine.popping c.args.sender.now) c.in-Some.item c.in-Some.ensures.some c.in-Some.ensures.alike,
+)

@@ -1,12 +1,13 @@
 use Rattle.rsx_tree.proofs.Alike.{sent_alike}
 use Rattle.rsx_tree.proofs.Balances.{tree_send_balanced}
 use Rattle.std.proofs.Common.{◌&&◌, rules}
-use Rattle.rsx_tree.proofs.Trees.{kept_sent, can_sent, sent_effect}
+use Rattle.rsx_tree.proofs.Popped.{chosen_sent}
+use Rattle.rsx_tree.proofs.Trees.{can_sent, sent_effect}
 use Rattle.rsx_tree.proofs.node.Node.send.Goals as goal
 
-pub returns-in-Ok-clause-kept : goal.returns-in-Ok-clause-kept
-returns-in-Ok-clause-kept g c =
-    kept_sent g.M.Machine (g.O.Ops.meaning c.args.ops.now) c.args.self.now.machine c.send.new.receiver c.args.at c.args.self.now.inputs c.send.new.self c.close_if.new.self (c.has_ended.result && c.in-Ok.own) (c.in-Ok.ensures.made 0 0) c.close_if.ensures.row
+pub returns-in-Ok-clause-chosen : goal.returns-in-Ok-clause-chosen
+returns-in-Ok-clause-chosen g c =
+    chosen_sent g.M.Machine (g.O.Ops.meaning c.args.ops.now) c.args.self.now.machine c.send.new.receiver c.args.at c.args.self.now.inputs c.send.new.self c.close_if.new.self (c.has_ended.result && c.in-Ok.own) (c.in-Ok.ensures.made 0 0) c.close_if.ensures.row
 
 pub returns-in-Ok-clause-ok : goal.returns-in-Ok-clause-ok
 returns-in-Ok-clause-ok g c = can_sent g.M.Machine (g.O.Ops.meaning c.args.ops.now) c.args.self.now.machine c.send.new.receiver c.args.at c.args.self.now.inputs c.send.new.self (c.in-Ok.ensures.made 0 0)
