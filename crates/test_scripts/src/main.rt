@@ -46,7 +46,7 @@ fn write_row(rt: &(impl Print + AllocGlobal), mode: Mode, script: &str) -> io::R
 }
 
 /// The expressions. Of the hubs that they read the first is fed by another expression, and the second has an emitter.
-const EXPRESSIONS: [&'static str; 23] = [
+const EXPRESSIONS: [&'static str; 25] = [
     "(publishOn 1 2 (range 1 6))",
     "(publishOn 0 2 (publishOn 1 2 (range 1 6)))",
     "(publishOn 1 2 (hub 0))",
@@ -63,6 +63,8 @@ const EXPRESSIONS: [&'static str; 23] = [
     "(window 2 ((scan add 0)) (publishOn 1 2 (hub 0)))",
     "(publishOn 1 2 (take 3 (publishOn 2 2 (range 1 9))))",
     "(publishOn 1 2 (map inc (publishOn 2 2 (items 1 9223372036854775807 3))))",
+    "(publishOnEager 1 2 (map inc (publishOn 2 2 (items 1 2 3 9223372036854775807 4))))",
+    "(publishOn 2 2 (publishOnEager 1 2 (merge 2 (hub 1) (map inc (items 1 9223372036854775807)))))",
     "(publishOn 1 4 (hub 0))",
     "(publishOn 1 4 (range 1 9))",
     "(publishOn 2 1 (range 1 5))",
