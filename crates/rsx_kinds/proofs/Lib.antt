@@ -15,7 +15,6 @@ pub mod Placings
 pub mod Plains
 pub mod PublishOn
 pub mod PublishOnEager
-pub mod Routes
 pub mod Rows
 pub mod Several
 pub mod SeveralDispatch

@@ -8,7 +8,7 @@ use Rattle.rsx_queued.specs.declared.sender.Sender.{Sender}
 use Rattle.rsx_queued.specs.declared.sender.Sender.TheVariants.{Direct, Crossing}
 use Rattle.rsx_queued.specs.declared.tail.Tail.{Tail}
 use Rattle.rsx_queued.specs.declared.tail.Tail.TheVariants.{Open, Completion, Failure, Taken}
-use Rattle.rsx_queued.specs.Prelude.{first_held, held_then, is_open, Shows, may_go_less, moved_goes, nothing_noted, nothing_queued, can_move, counted_in, ended_in, is_ended, may_go, node_sent, out, pick_by, pick_of, pop_note, reads_in, row_by, row_of, sender_comes_out, sender_counted, sender_done, sender_ended, sender_picks, sender_reads, sender_recorded, sender_rooms, sender_rows, sender_takes, sender_waiting, sender_wanted}
+use Rattle.rsx_queued.specs.Prelude.{first_held, held_then, is_open, Shows, may_go_less, moved_goes, nothing_noted, nothing_queued, can_move, counted_in, ended_in, is_ended, may_go, node_sent, out, pick_by, pick_of, reads_in, row_by, row_of, sender_comes_out, sender_counted, sender_done, sender_ended, sender_picks, sender_reads, sender_recorded, sender_rooms, sender_rows, sender_takes, sender_waiting, sender_wanted}
 use Rattle.rsx_hub.specs.declared.TheConstants.{MOST_ACCEPTED}
 use Rattle.rsx_tree.specs.Rests.{IsStuck, NothingBehind, NothingComes, Rests, coming}
 

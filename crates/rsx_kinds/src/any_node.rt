@@ -233,7 +233,11 @@ impl<T: Drop> Machine for AnyNode<T> {
             AnyNode::Plain(node) => node.pop_item(alloc, ops),
             AnyNode::Several(node) => node.pop_item(alloc, ops),
             AnyNode::PublishOn(node) => node.pop_item(alloc, ops),
-            AnyNode::PublishOnEager(node) => node.pop_item(alloc, ops),
+            // Told apart here, so that the compiler doesn't ask again behind the other kinds.
+            AnyNode::PublishOnEager(node) => match node.pop_item(alloc, ops) {
+                Some(item) => Some(item),
+                None => None,
+            },
             AnyNode::Window(node) => node.pop_item(alloc, ops),
             AnyNode::FlatMap(node) => node.pop_item(alloc, ops),
             AnyNode::FlatMapDelay(node) => node.pop_item(alloc, ops),

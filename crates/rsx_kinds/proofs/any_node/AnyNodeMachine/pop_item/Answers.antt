@@ -1,3 +1,4 @@
+use Rattle.std.proofs.Common.{Some}
 use Rattle.rsx_kinds.specs.Prelude.{eager_popping}
 use Rattle.rsx_kinds.proofs.Dispatch.{item_out_source, item_out_plain, item_out_publish_on, item_out_several, item_out_window, item_out_flat_map, item_out_flat_map_delay, item_out_publish_on_eager, item_out_group_by}
 use Rattle.rsx_kinds.proofs.any_node.AnyNodeMachine.pop_item.Goals as goal
@@ -30,9 +31,9 @@ pub returns-in-FlatMapDelay-clause-some : goal.returns-in-FlatMapDelay-clause-so
 returns-in-FlatMapDelay-clause-some g c =
     rw c.in-FlatMapDelay.is (item_out_flat_map_delay (g.O.Ops.meaning c.args.ops.now) c.in-FlatMapDelay.node c.pop_item-in-FlatMapDelay.new.self c.pop_item-in-FlatMapDelay.result c.pop_item-in-FlatMapDelay.ensures.some)
 
-pub returns-in-PublishOnEager-clause-some : goal.returns-in-PublishOnEager-clause-some
-returns-in-PublishOnEager-clause-some g c =
-    rw c.in-PublishOnEager.is (item_out_publish_on_eager (g.O.Ops.meaning c.args.ops.now) (eager_popping c.in-PublishOnEager.node) c.in-PublishOnEager.node c.pop_item-in-PublishOnEager.new.self c.pop_item-in-PublishOnEager.result c.pop_item-in-PublishOnEager.ensures.some)
+pub returns-in-Some-clause-some : goal.returns-in-Some-clause-some
+returns-in-Some-clause-some g c =
+    rw c.in-PublishOnEager.is (item_out_publish_on_eager (g.O.Ops.meaning c.args.ops.now) (eager_popping c.in-PublishOnEager.node) c.in-PublishOnEager.node c.pop_item-in-PublishOnEager.new.self (Some c.in-Some.item) c.in-Some.ensures.some)
 
 pub returns-in-GroupBy-clause-some : goal.returns-in-GroupBy-clause-some
 returns-in-GroupBy-clause-some g c =
