@@ -1,5 +1,5 @@
 -- Inputs, one behind the other, as a loop takes them.
-use Rattle.std.proofs.Common.{◌≡◌, List, [], ◌∷◌, ◌++◌, length, map, Option, Some, None, option_map, option_and_then, refl, sym, ap, ◌∙◌, append_assoc, arith}
+use Rattle.std.proofs.Common.{◌≡◌, List, [], ◌∷◌, ◌++◌, map, Option, Some, None, option_map, option_and_then, refl, sym, ap, ◌∙◌, append_assoc}
 use Rattle.std.proofs.lemmas.List.{append-nil}
 use Rattle.rsx.specs.Flow.{all_of}
 
@@ -25,7 +25,3 @@ pub all_taken : {A B : Type 0} (f : A → Option B) (whole : Option (List B)) (r
     → whole ≡ option_map (λ es. ys ++ es) (all_of (map f rest)) → rest ≡ [] → whole ≡ Some ys
 all_taken f whole rest ys so_far over =
     so_far ∙ ap (λ r. option_map (λ es. ys ++ es) (all_of (map f r))) over ∙ ap Some (append-nil ys)
-
-pub none_left : {A : Type 0} (xs : List A) → length xs ≡ 0 → xs ≡ []
-none_left [] h = refl
-none_left (x ∷ xs) h = absurd (omega arith)

@@ -11,7 +11,7 @@ use Rattle.rsx_queued.specs.declared.output.Output.{Output}
 use Rattle.rsx_queued.specs.declared.output.Output.TheVariants.{Empty}
 use Rattle.rsx_queued.proofs.Counts.{counted_without}
 use Rattle.rsx_queued.proofs.Outputs.{not_ended}
-use Rattle.rsx_values.specs.Prelude.{InputLeft, next_of as next_chosen, all_latest, row_first, is_itemless, stops, unless_chosen, combine}
+use Rattle.rsx_values.specs.Prelude.{InputLeft, next_of as next_chosen, all_latest, row_before, is_itemless, stops, unless_chosen, combine_until_stop}
 use Rattle.rsx_values.proofs.OneChoice.{next_length}
 use Rattle.rsx_values.proofs.Chosen.{item_first, last_completion, completion_first, failure_first, unless_more}
 use Rattle.rsx_queued.proofs.Picks.{unequal, next_first, next_beside, none_left}
@@ -72,7 +72,7 @@ last_test : (b g : Bool) (l : ℕ) → (g ≡ true → l ≡ 0) → (g ≡ false
 last_test b true l h k = ap (λ z. b || z) (one_at_most l (h refl))
 last_test b false l h k = ap (λ z. b || z) (more_than_one l (k refl))
 
-row_made : {T : Type 0} (row : List T → T) (o : Option (List T)) (v : Option (Stream T)) (over : Option (Stream T)) → output_then (made_out (option_map row o) Empty) v over ≡ row_first row o v
+row_made : {T : Type 0} (row : List T → T) (o : Option (List T)) (v : Option (Stream T)) (over : Option (Stream T)) → output_then (made_out (option_map row o) Empty) v over ≡ row_before row o v
 row_made row None v over = refl
 row_made row (Some xs) v over = refl
 
@@ -85,18 +85,18 @@ cut_failed f [] = refl
 cut_failed f (c ∷ cs) = refl
 
 done_by : {T : Type 0} (row : List T → T) (latest : List (Option T)) (c : ℕ) (cs : List ℕ) (is js : List (InputLeft T)) (b : Bool) → next_chosen c is ≡ Some (Complete, js) → stops latest c (length is) ≡ b →
-    output_then (completed b Empty) (combine row latest cs js) (unless_chosen cs) ≡ combine row latest (c ∷ cs) is
+    output_then (completed b Empty) (combine_until_stop row latest cs js) (unless_chosen cs) ≡ combine_until_stop row latest (c ∷ cs) is
 done_by row latest c cs is js true h s = cut_done cs ∙ sym (last_completion row latest c cs is js h s)
 done_by row latest c cs is js false h s = sym (completion_first row latest c cs is js h s)
 
 -- the value where input i is picked first, at which s is next
 pick_value : {T : Type 0} (m : Meaning T) (n : LatestState T) (i : ℕ) (made : Option T) (s : Signal T) (vs : List (Stream T)) (cs : List ℕ) → n.output ≡ Empty → next_signal_at (slice_get n.inputs i) ≡ Some s → made ≡ row_given m.row_of n.latest i (Some s) →
     let a = after_signal n i made (Some s) in
-    output_then a.output (combine m.row_of a.latest cs (inputs_left 0 a.inputs vs)) (unless_chosen cs) ≡ output_then n.output (combine m.row_of n.latest (i ∷ cs) (inputs_left 0 n.inputs vs)) (unless_chosen (i ∷ cs))
+    output_then a.output (combine_until_stop m.row_of a.latest cs (inputs_left 0 a.inputs vs)) (unless_chosen cs) ≡ output_then n.output (combine_until_stop m.row_of n.latest (i ∷ cs) (inputs_left 0 n.inputs vs)) (unless_chosen (i ∷ cs))
 pick_value m n i made (Next x) vs cs empty next is =
     let js = inputs_left 0 (taken_at n.inputs i) vs in
     let now = slice_set n.latest i (Some x) in
-    rw (empty, is) (row_made m.row_of (all_latest now) (combine m.row_of now cs js) (unless_chosen cs)
+    rw (empty, is) (row_made m.row_of (all_latest now) (combine_until_stop m.row_of now cs js) (unless_chosen cs)
     ∙ sym (item_first m.row_of n.latest i cs (inputs_left 0 n.inputs vs) js x (next_at i 0 n.inputs i (Next x) vs (omega arith) next)))
 pick_value m n i made Complete vs cs empty next is =
     let ks = inputs_left 0 n.inputs vs in

@@ -3,7 +3,7 @@ use Rattle.std.proofs.lemmas.Bool.{and_parts}
 use Rattle.std.proofs.lemmas.List.{length-set}
 use Rattle.std.proofs.Common.{◌≡◌, ℕ, zero, suc, ◌<◌, Bool, true, false, List, [], ◌∷◌, length, slice_index_or, slice_set, slice_get, Option, Some, None, inl, refl, ap, sym, ◌∙◌, subst, arith, ◌++◌}
 use Rattle.rsx_sources.specs.Prelude.{Note, Picks, Done, Signal, Next, Complete, Error, Meaning, Stream, ended_by, signal_then, CountsIn, CountsStep, Incoming, TakesIn, Records, incoming_of, front_of, IsResidualOf, IsSteppedOut, IsPickDone, IsItemOut}
-use Rattle.rsx_values.specs.Prelude.{written, combine, unless_chosen}
+use Rattle.rsx_values.specs.Prelude.{written, combine_until_stop, unless_chosen}
 use Rattle.rsx_queued.specs.declared.input.QueuedInput.{QueuedInput}
 use Rattle.rsx_queued.specs.declared.output.Output.{Output}
 use Rattle.rsx_queued.specs.declared.output.Output.TheVariants.{Empty, Waiting}
@@ -26,7 +26,7 @@ with_input n i b = record { inputs = slice_set n.inputs i b; latest = n.latest; 
 
 signal_at : {T : Type 0} (m : Meaning T) (n : LatestState T) (i : ℕ) (s : Signal T) (a b : QueuedInput T) → IsPut n.inputs i s a b → ((v : Stream T) → still b v ≡ still a (signal_then s v)) → TakesIn (latest_comes_out m) n i s (with_input n i b)
 signal_at m n i s a b p value inc further =
-    ap (λ is. picked further (λ cs. output_then n.output (combine m.row_of n.latest cs is) (unless_chosen cs))) (put_left n.inputs i s a b p value inc)
+    ap (λ is. picked further (λ cs. output_then n.output (combine_until_stop m.row_of n.latest cs is) (unless_chosen cs))) (put_left n.inputs i s a b p value inc)
 
 pub signal_in : {T : Type 0} (m : Meaning T) (start old : LatestState T) (i : ℕ) (s : Signal T) (a b : QueuedInput T) → start ≡ old → latest_takes old i (front_of s) ≡ true → a ≡ slice_index_or start.inputs i a → b ≡ with_signal a s → ((v : Stream T) → still b v ≡ still a (signal_then s v)) →
     TakesIn (latest_comes_out m) old i s (with_input start i b)
@@ -212,7 +212,7 @@ row_out {T} m old noted new i asked sent y a enabled but was row notes after =
       out = record {
         waited = refl;
         popped_out = ((refl, empty), refl, refl, refl);
-        value = λ inc further. item_leaves (Waiting (Next y)) noted.output y (λ cs. combine m.row_of left.latest cs (inputs_left 0 left.inputs (inc.first ∷ inc.others))) unless_chosen refl empty further;
+        value = λ inc further. item_leaves (Waiting (Next y)) noted.output y (λ cs. combine_until_stop m.row_of left.latest cs (inputs_left 0 left.inputs (inc.first ∷ inc.others))) unless_chosen refl empty further;
         notes = refl;
         counts = (ap has_ending empty, (λ taken n h. record { goes_on = ap is_over empty; some_left = h.some_left; few = h.few; counts = h.counts }), λ j d. d);
       };
@@ -227,13 +227,13 @@ row_gone m old noted new i asked sent y a enabled but was row notes after =
 -- ---- the rest
 
 pub residual_of : {T : Type 0} (m : Meaning T) (start old : LatestState T) (inboxes vs : List (Stream T)) (o : Option (Stream T)) (rest v : Stream T) → start ≡ old →
-    o ≡ combine m.row_of start.latest [] (inputs_left 0 start.inputs vs) → o ≡ Some rest → output_then start.output (Some rest) (Some (ended_by Done)) ≡ Some v →
+    o ≡ combine_until_stop m.row_of start.latest [] (inputs_left 0 start.inputs vs) → o ≡ Some rest → output_then start.output (Some rest) (Some (ended_by Done)) ≡ Some v →
     IsResidualOf (latest_comes_out m) latest_recorded (λ n. None) old inboxes vs v
 residual_of {T} m start old inboxes vs o rest v same is some gives =
     let P : LatestState T → Type 0 = λ n. IsResidualOf (latest_comes_out m) latest_recorded (λ n. None) n inboxes vs v in
     subst P same (λ hubs further behind none.
     ap (λ k. latest_of m start.output start.latest start.inputs ((incoming_of hubs vs).first ∷ (incoming_of hubs vs).others) k) (none_more (written start.choices) further none)
-    ∙ ap (λ is. output_then start.output (combine m.row_of start.latest [] is) (Some (ended_by Done))) (padded start.inputs hubs vs)
+    ∙ ap (λ is. output_then start.output (combine_until_stop m.row_of start.latest [] is) (Some (ended_by Done))) (padded start.inputs hubs vs)
     ∙ ap (λ z. output_then start.output z (Some (ended_by Done))) (sym is ∙ some)
     ∙ gives)
 

@@ -5,7 +5,7 @@ use Rattle.rsx_sources.specs.declared.machine.Front.{Front}
 use Rattle.rsx_sources.specs.declared.machine.Front.TheVariants.{Item}
 use Rattle.rsx_sources.specs.declared.machine.Passed.{Passed}
 use Rattle.rsx_values.specs.declared.record.Run.{Run}
-use Rattle.rsx_values.specs.Prelude.{written, all_latest, is_itemless, combine, combine_latest, unless_chosen}
+use Rattle.rsx_values.specs.Prelude.{written, all_latest, is_itemless, combine_until_stop, latest_until_stop, unless_chosen}
 use Rattle.rsx_queued.specs.declared.input.QueuedInput.{QueuedInput}
 use Rattle.rsx_queued.specs.declared.output.Output.{Output}
 use Rattle.rsx_queued.specs.declared.output.Output.TheVariants.{Waiting}
@@ -21,7 +21,7 @@ pub record LatestState (T : Type 0) : Type 0 where
 
 -- the out slot, and then the rows of what is still to come of the inputs; behind an ending nothing can be chosen
 abbrev pub latest_of : {T : Type 0} → Meaning T → Output T → List (Option T) → List (QueuedInput T) → List (Stream T) → Note → Option (Stream T)
-latest_of m out latest qs vs further = picked further (λ cs. output_then out (combine m.row_of latest cs (inputs_left 0 qs vs)) (unless_chosen cs))
+latest_of m out latest qs vs further = picked further (λ cs. output_then out (combine_until_stop m.row_of latest cs (inputs_left 0 qs vs)) (unless_chosen cs))
 
 abbrev pub latest_comes_out : {T : Type 0} → Meaning T → LatestState T → Incoming T → Note → Option (Stream T)
 latest_comes_out m n inc further = latest_of m n.output n.latest n.inputs (inc.first ∷ inc.others) further
@@ -149,4 +149,4 @@ latest_popped old s new = IsOut old.output s new.output × (new.inputs ≡ old.i
 abbrev pub GivesLatest : {T : Type 0} → LatestState T → ℕ → Type 0
 GivesLatest {T} n inputs =
     (m : Meaning T) (inc : Incoming T) (further : Note) →
-    latest_comes_out m n inc further ≡ picked further (λ cs. combine_latest m.row_of cs (first_values inputs (inc.first ∷ inc.others)))
+    latest_comes_out m n inc further ≡ picked further (λ cs. latest_until_stop m.row_of cs (first_values inputs (inc.first ∷ inc.others)))

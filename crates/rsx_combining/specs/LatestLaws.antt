@@ -5,14 +5,14 @@ use Rattle.std.proofs.lemmas.Bool.Decides.{nat_tests}
 use Rattle.rsx_sources.specs.Prelude.{Note, Open, Done, Failed, Signal, Next, Complete, Error, Meaning, unchosen, Stream, ended_by, item_then, AreWithin, CanStep, IsHungry, ends_input, Incoming, incoming_of}
 use Rattle.rsx_queued.specs.Prelude.{inputs_left, picked, ended_out, offers_ending, ending_there, empty_of, settled, same_row, done_left, picked_same, is_empty, output_then}
 use Rattle.rsx_queued.proofs.Wanting.{Scanned, scan}
-use Rattle.rsx_values.specs.Prelude.{Taken as TakenSignal, rest_of, all_latest, row_first, stops, unless_chosen, walk, combine}
+use Rattle.rsx_values.specs.Prelude.{Taken as TakenSignal, rest_of, all_latest, row_before, stops, unless_chosen, walk_until_stop, combine_until_stop}
 use Rattle.rsx_combining.specs.Latest.{LatestState, latest_of, latest_comes_out, latest_waiting, latest_takes, gives_row, may_pick, latest_picks, latest_recorded, latest_ended, latest_done, IsLatestCounted, latest_wanted}
 
 -- ---- what comes in no longer matters
 
 pub latest_drops : {T : Type 0} (m : Meaning T) (n : LatestState T) (inc other : Incoming T) (further : Note) → latest_ended n ≡ true → latest_comes_out m n inc further ≡ latest_comes_out m n other further
 latest_drops m n inc other further e =
-    let of : Incoming _ → List ℕ → Option (Stream _) = λ c cs. combine m.row_of n.latest cs (inputs_left 0 n.inputs (c.first ∷ c.others)) in
+    let of : Incoming _ → List ℕ → Option (Stream _) = λ c cs. combine_until_stop m.row_of n.latest cs (inputs_left 0 n.inputs (c.first ∷ c.others)) in
     picked_same further (λ cs. output_then n.output (of inc cs) (unless_chosen cs)) (λ cs. output_then n.output (of other cs) (unless_chosen cs)) (λ cs. ended_out n.output (of inc cs) (of other cs) (unless_chosen cs) e)
 
 pub latest_ends : {T : Type 0} (m : Meaning T) (n : LatestState T) (s : Signal T) (inc other : Incoming T) (further : Note) → latest_waiting m n ≡ Some s → ends_input s ≡ true → latest_comes_out m n inc further ≡ latest_comes_out m n other further
@@ -24,21 +24,21 @@ pub latest_done_drops : {T : Type 0} (m : Meaning T) (n : LatestState T) (hubs b
     latest_comes_out m n (incoming_of hubs (before ++ v ∷ after)) further ≡ latest_comes_out m n (incoming_of hubs (before ++ w ∷ after)) further
 latest_done_drops m n hubs before after v w further d =
     ap (λ l. latest_of m n.output n.latest n.inputs l further) (same_row hubs before after v)
-    ∙ ap (λ is. picked further (λ cs. output_then n.output (combine m.row_of n.latest cs is) (unless_chosen cs))) (done_left 0 n.inputs before after v w d)
+    ∙ ap (λ is. picked further (λ cs. output_then n.output (combine_until_stop m.row_of n.latest cs is) (unless_chosen cs))) (done_left 0 n.inputs before after v w d)
     ∙ ap (λ l. latest_of m n.output n.latest n.inputs l further) (sym (same_row hubs before after w))
 
 -- ---- where nothing more is chosen, something comes out
 
-some_row : {T : Type 0} (row : List T → T) (o : Option (List T)) (p : Option (Stream T)) → (v : Stream T) × (p ≡ Some v) → (w : Stream T) × (row_first row o p ≡ Some w)
+some_row : {T : Type 0} (row : List T → T) (o : Option (List T)) (p : Option (Stream T)) → (v : Stream T) × (p ≡ Some v) → (w : Stream T) × (row_before row o p ≡ Some w)
 some_row row None p h = h
 some_row row (Some xs) p h = (item_then (row xs) h.0, ap (option_map (item_then (row xs))) h.1)
 
-pub some_walk : {T : Type 0} (row : List T → T) (latest : List (Option T)) (left : ℕ) (ts : List (TakenSignal T)) → (v : Stream T) × (walk row latest left [] ts ≡ Some v)
+pub some_walk : {T : Type 0} (row : List T → T) (latest : List (Option T)) (left : ℕ) (ts : List (TakenSignal T)) → (v : Stream T) × (walk_until_stop row latest left [] ts ≡ Some v)
 some_walk row latest left [] = (ended_by (if nat_eq left 0 then Done else Open), refl)
-some_walk row latest left ((n, Next x) ∷ ts) = some_row row (all_latest (slice_set latest n (Some x))) (walk row (slice_set latest n (Some x)) left [] ts) (some_walk row (slice_set latest n (Some x)) left ts)
+some_walk row latest left ((n, Next x) ∷ ts) = some_row row (all_latest (slice_set latest n (Some x))) (walk_until_stop row (slice_set latest n (Some x)) left [] ts) (some_walk row (slice_set latest n (Some x)) left ts)
 some_walk {T} row latest left ((n, Complete) ∷ ts) = by_test (stops latest n left) (some_walk row latest (left - 1) ts)
   where
-    by_test : (b : Bool) → (v : Stream T) × (walk row latest (left - 1) [] ts ≡ Some v) → (v : Stream T) × ((if b then unless_chosen [] else walk row latest (left - 1) [] ts) ≡ Some v)
+    by_test : (b : Bool) → (v : Stream T) × (walk_until_stop row latest (left - 1) [] ts ≡ Some v) → (v : Stream T) × ((if b then unless_chosen [] else walk_until_stop row latest (left - 1) [] ts) ≡ Some v)
     by_test true h = (ended_by Done, refl)
     by_test false h = h
 some_walk row latest left ((n, Error c) ∷ ts) = (ended_by (Failed c), refl)

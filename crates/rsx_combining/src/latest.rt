@@ -229,6 +229,7 @@ impl<T: Drop> Machine for CombineLatestNode<T> {
     ghost use Rattle.rsx_sources.specs.Steps.{IsNotTaken, IsNotMade, StaysAlike};
     ghost use Rattle.rsx_combining.specs.Latest.{LatestState, latest_comes_out, latest_waiting, latest_shown, latest_takes, latest_with_signal, IsLatestPassed, latest_picks, latest_recording, latest_recorded, latest_ended, latest_done, IsLatestCounted, latest_wanted, latest_popped};
     ghost use Rattle.rsx_combining.specs.LatestLaws.{latest_drops, latest_ends, latest_done_drops, latest_settles, latest_ending_waits, latest_hungry};
+    ghost use Rattle.std.proofs.lemmas.Bool.{true≢false};
 
     ghost comes_out = { latest_comes_out };
 
@@ -257,6 +258,8 @@ impl<T: Drop> Machine for CombineLatestNode<T> {
     ghost counted = { IsLatestCounted };
 
     ghost wanted = { latest_wanted };
+
+    ghost accepts = { λ n a s. true };
 
     ghost popped = { latest_popped };
 
@@ -466,6 +469,11 @@ impl<T: Drop> Machine for CombineLatestNode<T> {
         credits_at(self.inputs.as_slice(), input)
     }
 
+    #[inline(always)]
+    fn accepts_demand(&self, asked: u64, sent: u64) -> bool {
+        true
+    }
+
     fn note(&self, alloc: Global) -> Result<Note, NoMemory> {
         let choices = self.choices.choices(alloc)?;
         Ok(Note::Picks(choices))
@@ -507,4 +515,6 @@ impl<T: Drop> Machine for CombineLatestNode<T> {
     ghost ending_waits = { latest_ending_waits };
 
     ghost hungry = { latest_hungry };
+
+    ghost asked_enough = { λ n a s e. absurd (true≢false e) };
 }

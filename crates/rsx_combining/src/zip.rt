@@ -152,6 +152,7 @@ impl<T: Drop> Machine for ZipNode<T> {
     ghost use Rattle.rsx_sources.specs.Passed.{IsPassed};
     ghost use Rattle.rsx_combining.specs.Zip.{ZipState, zip_comes_out, zip_waiting, zip_shown, zip_takes, zip_with_signal, IsZipPassed, zip_picks, IsZipPick, zip_rows, IsZipRow, zip_recording, zip_recorded, zip_ended, zip_done, IsZipCounted, zip_wanted, zip_popped, zip_step_allocates};
     ghost use Rattle.rsx_combining.specs.ZipLaws.{zip_popped_alike, zip_drops, zip_ends, zip_done_drops, zip_settles, zip_ending_waits, zip_hungry};
+    ghost use Rattle.std.proofs.lemmas.Bool.{true≢false};
 
     ghost comes_out = { zip_comes_out };
 
@@ -180,6 +181,8 @@ impl<T: Drop> Machine for ZipNode<T> {
     ghost counted = { IsZipCounted };
 
     ghost wanted = { zip_wanted };
+
+    ghost accepts = { λ n a s. true };
 
     ghost popped = { zip_popped };
 
@@ -384,6 +387,11 @@ impl<T: Drop> Machine for ZipNode<T> {
         credits_at(self.inputs.as_slice(), input)
     }
 
+    #[inline(always)]
+    fn accepts_demand(&self, asked: u64, sent: u64) -> bool {
+        true
+    }
+
     fn note(&self, alloc: Global) -> Result<Note, NoMemory> {
         Ok(Note::Ended(self.chosen))
     }
@@ -424,4 +432,6 @@ impl<T: Drop> Machine for ZipNode<T> {
     ghost ending_waits = { zip_ending_waits };
 
     ghost hungry = { zip_hungry };
+
+    ghost asked_enough = { λ n a s e. absurd (true≢false e) };
 }

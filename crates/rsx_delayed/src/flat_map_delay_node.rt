@@ -150,6 +150,7 @@ impl<T: Drop> Machine for FlatMapDelayNode<T> {
     ghost use Rattle.rsx_delayed.specs.FlatMapDelayLaws.{flat_delay_drops, flat_delay_ends, flat_delay_done_drops, flat_delay_settles, flat_delay_ending_waits, flat_delay_hungry};
     ghost use Rattle.rsx_delayed.specs.FlatMapDelay.{flat_delay_comes_out, flat_delay_waiting, flat_delay_shown, flat_delay_takes, flat_delay_picks, flat_delay_recording, flat_delay_recorded, flat_delay_ended, flat_delay_done, flat_delay_counted, flat_delay_wanted, flat_delay_popped};
     ghost use Rattle.rsx_delayed.specs.declared.flat_map_delay_node.FlatMapDelayNode.{FlatMapDelayNode};
+    ghost use Rattle.std.proofs.lemmas.Bool.{true≢false};
 
     ghost comes_out = { flat_delay_comes_out };
 
@@ -178,6 +179,8 @@ impl<T: Drop> Machine for FlatMapDelayNode<T> {
     ghost counted = { flat_delay_counted };
 
     ghost wanted = { flat_delay_wanted };
+
+    ghost accepts = { λ n a s. true };
 
     ghost popped = { flat_delay_popped };
 
@@ -409,6 +412,11 @@ impl<T: Drop> Machine for FlatMapDelayNode<T> {
         self.flat.want(input, asked, sent)
     }
 
+    #[inline(always)]
+    fn accepts_demand(&self, asked: u64, sent: u64) -> bool {
+        true
+    }
+
     fn note(&self, alloc: Global) -> Result<Note, NoMemory> {
         self.flat.note(alloc)
     }
@@ -447,4 +455,6 @@ impl<T: Drop> Machine for FlatMapDelayNode<T> {
     ghost ending_waits = { flat_delay_ending_waits };
 
     ghost hungry = { flat_delay_hungry };
+
+    ghost asked_enough = { λ n a s e. absurd (true≢false e) };
 }

@@ -146,6 +146,7 @@ impl<T: Drop> Machine for MergeDelayNode<T> {
     ghost use Rattle.rsx_delayed.specs.MergeDelayLaws.{delayed_drops, delayed_ends, delayed_done_drops, delayed_settles, delayed_ending_waits, delayed_hungry};
     ghost use Rattle.rsx_delayed.specs.MergeDelay.{delayed_comes_out, delayed_waiting, delayed_shown, delayed_takes, delayed_picks, delayed_recording, delayed_recorded, delayed_ended, delayed_done, delayed_counted, delayed_wanted, delayed_popped};
     ghost use Rattle.rsx_delayed.specs.declared.merge_delay_node.MergeDelayNode.{MergeDelayNode};
+    ghost use Rattle.std.proofs.lemmas.Bool.{true≢false};
 
     ghost comes_out = { delayed_comes_out };
 
@@ -174,6 +175,8 @@ impl<T: Drop> Machine for MergeDelayNode<T> {
     ghost counted = { delayed_counted };
 
     ghost wanted = { delayed_wanted };
+
+    ghost accepts = { λ n a s. true };
 
     ghost popped = { delayed_popped };
 
@@ -381,6 +384,11 @@ impl<T: Drop> Machine for MergeDelayNode<T> {
         credits_at(self.inputs.as_slice(), input)
     }
 
+    #[inline(always)]
+    fn accepts_demand(&self, asked: u64, sent: u64) -> bool {
+        true
+    }
+
     fn note(&self, alloc: Global) -> Result<Note, NoMemory> {
         let choices = self.choices.choices(alloc)?;
         Ok(Note::Picks(choices))
@@ -419,4 +427,6 @@ impl<T: Drop> Machine for MergeDelayNode<T> {
     ghost ending_waits = { delayed_ending_waits };
 
     ghost hungry = { delayed_hungry };
+
+    ghost asked_enough = { λ n a s e. absurd (true≢false e) };
 }

@@ -142,6 +142,7 @@ impl<T: Drop> Machine for PublishOnEagerNode<T> {
     ghost use Rattle.rsx_delayed.specs.PublishOnEagerLaws.{eager_drops, eager_ends, eager_done_drops, eager_settles, eager_ending_waits, eager_hungry};
     ghost use Rattle.rsx_delayed.specs.PublishOnEager.{eager_comes_out, eager_waiting, eager_shown, eager_takes, eager_picks, eager_recording, eager_recorded, eager_popping, eager_ended, eager_done, eager_wanted, eager_popped, IsEagerCounted};
     ghost use Rattle.rsx_delayed.specs.declared.publish_on_eager_node.PublishOnEagerNode.{PublishOnEagerNode};
+    ghost use Rattle.std.proofs.lemmas.Bool.{true≢false};
 
     ghost comes_out = { eager_comes_out };
 
@@ -170,6 +171,8 @@ impl<T: Drop> Machine for PublishOnEagerNode<T> {
     ghost counted = { IsEagerCounted };
 
     ghost wanted = { eager_wanted };
+
+    ghost accepts = { λ n a s. true };
 
     ghost popped = { eager_popped };
 
@@ -380,6 +383,11 @@ impl<T: Drop> Machine for PublishOnEagerNode<T> {
         self.held.want(input, asked, sent)
     }
 
+    #[inline(always)]
+    fn accepts_demand(&self, asked: u64, sent: u64) -> bool {
+        true
+    }
+
     fn note(&self, alloc: Global) -> Result<Note, NoMemory> {
         let choices = self.choices.choices(alloc)?;
         Ok(Note::Picks(choices))
@@ -415,4 +423,6 @@ impl<T: Drop> Machine for PublishOnEagerNode<T> {
     ghost ending_waits = { eager_ending_waits };
 
     ghost hungry = { eager_hungry };
+
+    ghost asked_enough = { λ n a s e. absurd (true≢false e) };
 }

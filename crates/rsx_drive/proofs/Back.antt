@@ -1,5 +1,5 @@
 -- The text of an expression is read as that expression.
-use Rattle.std.proofs.Common.{◌≡◌, ℕ, zero, suc, ◌+◌, ◌<◌, ◌≤◌, ◌^◌, ℤ, Bool, true, false, cond, ◌==◌, List, [], ◌∷◌, ◌++◌, length, Result, Ok, refl, sym, ap, subst, ◌∙◌, arith}
+use Rattle.std.proofs.Common.{◌≡◌, ℕ, zero, suc, ◌+◌, ◌<◌, ◌≤◌, ◌^◌, ℤ, true, false, List, [], ◌∷◌, ◌++◌, length, Result, Ok, refl, sym, ap, subst, ◌∙◌, arith}
 use Rattle.std.specs.Prelude.{nat_lt, codes, IsSome}
 use Rattle.std.specs.Fmt.{decimal, signed_decimal}
 use Rattle.std.proofs.lemmas.Bool.Decides.{nat_tests}
@@ -9,17 +9,16 @@ use Rattle.rsx_types.specs.declared.stage.Stage.TheVariants.{Map, Filter, Take, 
 use Rattle.rsx_demo.specs.declared.val.Val.{Val}
 use Rattle.rsx_demo.specs.declared.names.Role.TheVariants as for
 use Rattle.rsx_script.specs.declared.words.LineRefusal.{LineRefusal}
-use Rattle.rsx_script.specs.declared.words.LineRefusal.TheVariants.{TooLong}
 use Rattle.rsx_script.specs.Words.{column_of, is_separator}
-use Rattle.rsx_script.specs.Numbers.{u8_of, u32_of, u64_of, signed_of}
-use Rattle.rsx_script.specs.Reading.{Left, ◌>>=◌, left_at, name_at, number_at, opening_at, closing_at, is_opening_next}
+use Rattle.rsx_script.specs.Numbers.{u8_of, u32_of, signed_of}
+use Rattle.rsx_script.specs.Reading.{Left, left_at, is_opening_next}
 use Rattle.rsx_script.specs.Orders.{Tree, Trees, items, range, hub, plain, concat, merge, merge_delay, zip, latest, group, window, flat, flat_delay, on, on_eager, none, first}
 use Rattle.rsx_script.specs.Expressions.{stage_at, range_at, hub_at, group_at, window_at, flat_at, flat_delay_at, on_at, on_eager_at, one_input_at, over_one_at, operator_at, expression_at, inputs_at}
-use Rattle.rsx_script.specs.Commands.{expression_of_line, alone_at}
+use Rattle.rsx_script.specs.Commands.{expression_of_line}
 use Rattle.rsx_script.proofs.Runs.{is_opening_at}
 use Rattle.rsx_drive.specs.Names.{name_of, function_text}
-use Rattle.rsx_drive.specs.Text.{tree_text, IsSmallInt, AreLineItems, IsLine, AreLines, IsLineStage, AreLineStages, ReadsBack}
-use Rattle.rsx_drive.proofs.Put.{put_items, put_stage, put_rest, stage_name, put_chain, put_tree, put_trees, tree_put, weight, weights, weight_len}
+use Rattle.rsx_drive.specs.Text.{tree_text, IsSmallInt, AreLineItems, IsLine, AreLines, AreLineStages, ReadsBack}
+use Rattle.rsx_drive.proofs.Put.{put_items, put_rest, stage_name, put_chain, put_tree, put_trees, tree_put, weight, weights, weight_len}
 use Rattle.rsx_drive.proofs.Steps.{u64_is, items_are, stage_is, stage_word, chain_is}
 use Rattle.rsx_drive.proofs.Words.{IsWord, word_of, space_is, name_is, opened, closed, ended, number_is, function_is, decimal_word, signed_word, unsigned_reads, signed_reads}
 

@@ -1,5 +1,5 @@
 -- The text of items, of operators and of chains is read as they are.
-use Rattle.std.proofs.Common.{◌≡◌, ℕ, zero, suc, ◌+◌, ◌<◌, ◌≤◌, ◌^◌, ℤ, true, false, List, [], ◌∷◌, ◌++◌, length, Some, None, Ok, refl, sym, ap, ◌∙◌, arith}
+use Rattle.std.proofs.Common.{◌≡◌, ℕ, zero, suc, ◌+◌, ◌<◌, ◌^◌, ℤ, true, List, [], ◌∷◌, ◌++◌, length, Some, None, Ok, refl, sym, ap, ◌∙◌, arith}
 use Rattle.std.specs.Prelude.{codes}
 use Rattle.std.specs.Fmt.{decimal, signed_decimal}
 use Rattle.rsx_types.specs.declared.stage.Stage.{Stage}
@@ -9,11 +9,10 @@ use Rattle.rsx_demo.specs.declared.val.Val.TheVariants as is
 use Rattle.rsx_demo.specs.declared.names.Role.TheVariants as for
 use Rattle.rsx_script.specs.Words.{text, column_of, is_separator}
 use Rattle.rsx_script.specs.Numbers.{u64_of, signed_of}
-use Rattle.rsx_script.specs.Reading.{Left, ◌>>=◌, left_at, next_at, name_at, number_at, closing_at, opening_at}
-use Rattle.rsx_script.specs.Expressions.{function_at, stage_at, with_function, with_size, with_fold, opened_stage_at, chain_stage_at, stages_at, chain_at, item_at, items_at}
+use Rattle.rsx_script.specs.Reading.{Left, left_at, number_at}
+use Rattle.rsx_script.specs.Expressions.{stage_at, opened_stage_at, chain_stage_at, stages_at, chain_at, item_at, items_at}
 use Rattle.rsx_script.proofs.Runs.{opening_is, closing_is}
 use Rattle.rsx_script.proofs.Lists.{items_next}
-use Rattle.rsx_drive.specs.Names.{function_text}
 use Rattle.rsx_drive.specs.Text.{IsSmallInt, AreLineItems, IsLineStage, AreLineStages}
 use Rattle.rsx_drive.proofs.Put.{put_items, put_stage, put_rest, stage_name, put_more, put_stages, put_chain}
 use Rattle.rsx_drive.proofs.Words.{IsWord, word_of, word_is, space_is, name_is, opened, closed, number_is, function_is, decimal_word, signed_word, unsigned_reads, signed_reads}

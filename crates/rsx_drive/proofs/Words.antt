@@ -1,10 +1,9 @@
 -- Words that stand in front of a separator, and how they are read; and the words of numbers and functions.
-use Rattle.std.proofs.Common.{◌≡◌, ◌≢◌, ℕ, suc, ◌+◌, ◌<◌, ◌≤◌, ◌^◌, Bool, true, false, cond, ◌&&◌, ◌||◌, ◌==◌, inl, inr, List, [], ◌∷◌, ◌++◌, length, take, drop, Option, Some, None, Result, Ok, Err, ℤ, pos, negsuc, neg_ℤ, refl, sym, ap, subst, ◌∙◌, arith}
+use Rattle.std.proofs.Common.{◌≡◌, ℕ, suc, ◌+◌, ◌<◌, ◌≤◌, ◌^◌, Bool, true, false, cond, ◌&&◌, ◌||◌, ◌==◌, inl, inr, List, [], ◌∷◌, ◌++◌, length, take, drop, Option, Some, None, Ok, ℤ, pos, negsuc, neg_ℤ, refl, sym, ap, subst, ◌∙◌, arith}
 use Rattle.std.specs.Prelude.{not, nat_lt, nat_le, slice_index, IsSome, codes}
 use Rattle.std.specs.Char.{is_ascii_graphic}
 use Rattle.std.specs.Fmt.{decimal, signed_decimal}
 use Rattle.std.specs.List.{before_first, position, position_or_len, prefix_len}
-use Rattle.std.specs.Option.{ok_or}
 use Rattle.std.specs.Str.{all_ascii_digits}
 use Rattle.std.specs.Str.Parse.{AllDigits, IsNumeral, digits_value}
 use Rattle.std.proofs.Math.Seq.{take-append_seam, drop-append_seam}
@@ -15,14 +14,12 @@ use Rattle.std.proofs.lemmas.Str.Parse.{IsNumeralModel, numerals_by_value, tells
 use Rattle.rsx_demo.specs.declared.names.Role.{Role}
 use Rattle.rsx_demo.specs.declared.names.Role.TheVariants as for
 use Rattle.rsx_demo.specs.Names.{number_named}
-use Rattle.rsx_script.specs.declared.words.LineRefusal.{LineRefusal}
-use Rattle.rsx_script.specs.declared.words.LineRefusal.TheVariants.{Syntax, UnknownName}
 use Rattle.rsx_script.specs.Words.{is_separator, is_strange, words_after, text, column_of}
 use Rattle.rsx_script.specs.Numbers.{is_numeral, unsigned_of, signed_of, negative_of, positive_of}
-use Rattle.rsx_script.specs.Reading.{Left, ◌>>=◌, left_at, next_at, name_at, number_at, opening_at, closing_at, end_at, is_opening_next}
+use Rattle.rsx_script.specs.Reading.{left_at, next_at, name_at, number_at, opening_at, closing_at, end_at}
 use Rattle.rsx_script.specs.Expressions.{function_at}
-use Rattle.rsx_script.proofs.Runs.{text_is, opening_is, closing_is, end_is, is_opening_at}
-use Rattle.rsx_drive.specs.Names.{name_of, name_or, function_text, map_name, name_of_two}
+use Rattle.rsx_script.proofs.Runs.{text_is, opening_is, closing_is, end_is}
+use Rattle.rsx_drive.specs.Names.{name_of, function_text, map_name, name_of_two}
 use Rattle.rsx_drive.specs.Text.{IsSmallInt}
 
 -- ---- words

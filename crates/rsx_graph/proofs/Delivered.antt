@@ -85,7 +85,7 @@ taken_fewer m g h k few quiet fewer i s there waits =
 all_delivered : {T : Type 0} (m : Meaning T) (published : List (Stream T)) (subs : List (Subscription T)) (pasts : List (Past T)) → AllServed any_machine m published subs pasts → AllHaveRead m published subs → AllHold m published subs pasts → AllDelivered m published subs pasts
 all_delivered m published [] [] served read hold = tt
 all_delivered m published (s ∷ ss) (p ∷ ps) served read hold = (
-  λ live within. record { value = hold.0.value; scratch = hold.0.scratch.2; served = served.0 live (inr read.0) within hold.0.value hold.0.scratch.2 },
+  λ live within. record { value = hold.0.value; scratch = hold.0.scratch.2; served = served.0 live (inr read.0) within hold.0.value hold.0.until_stop },
   all_delivered m published ss ps served.1 read.1 hold.1,
 )
 all_delivered m published [] (p ∷ ps) served read hold = absurd served

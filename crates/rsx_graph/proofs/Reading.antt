@@ -4,13 +4,15 @@ use Rattle.rsx_kinds.specs.Routes.{tree_nodes}
 use Rattle.rsx_graph.proofs.Laws.{any_laws}
 use Rattle.rsx_kinds.specs.Any.{any_machine}
 use Rattle.rsx_kinds.specs.Rests.{any_rests}
-use Rattle.rsx_kinds.specs.TreeLaws.{tree_ending_waits, tree_settles}
+use Rattle.rsx_kinds.specs.TreeLaws.{tree_asked_enough, tree_ending_waits, tree_settles}
 use Rattle.rsx_graph.specs.Kinds.{IsPartQuiet, Part, AreHubsQuiet, IsAllQuiet, IsHubQuiet, name_in, all_readers, AreValues, IsValue, accepts_at, accepts_in, feed_enabled, sends, sends_where, works, works_where, HubStands, IsFedBy, Rows, SourceStands, StandsFor, AllHaveRead, AllStand, all_have_room, can_accept, can_feed, Subscription, IsQuietInside, goes_out, inside_enabled, next_out, notes_of, route, HasReadAll, PartStands, Feed}
 use Rattle.std.proofs.Common.{◌≡◌, ◌⊎◌, inl, inr, ℕ, zero, suc, ◌+◌, ◌<◌, ◌≤◌, min, Bool, true, false, ◌&&◌, ◌||◌, nat_eq, nat_le, if◌then◌else◌, List, [], ◌∷◌, ◌++◌, length, length-append, take, drop, map, slice_get, Option, Some, None, option_map, refl, sym, ap, ◌∙◌, subst, arith, append_assoc}
 use Rattle.std.specs.Option.{is_none, is_some}
 use Rattle.std.proofs.lemmas.Bool.Decides.{nat_tests}
-use Rattle.std.proofs.lemmas.List.{append-nil, drop_all, length-take}
+use Rattle.std.proofs.lemmas.List.{append-nil, drop_all, length-take, nil_from_length}
 use Rattle.rsx_demand.specs.declared.TheConstants.{UNBOUNDED}
+use Rattle.rsx_model.proofs.UntilStop.{until_stop_law}
+use Rattle.rsx_model.specs.Eval.{environment, eval}
 use Rattle.rsx_graph_moves.proofs.Named.{name_enabled}
 use Rattle.rsx_graph_state.proofs.Named.{feed_named, is_number}
 use Rattle.rsx_graph_state.proofs.Values.{emitted_value, values_of}
@@ -23,11 +25,12 @@ use Rattle.rsx_pipe.proofs.Signals.{some_same}
 use Rattle.rsx_pipe.specs.Output.{IsUnended, counts_in, items_in, more_after, published_then, values_then}
 use Rattle.rsx_pipe.specs.Part as Parts
 use Rattle.rsx_pipe.specs.Part.{IsServed, evaluated}
-use Rattle.rsx_sources.specs.Prelude.{front_of, published_at, reads_hub, is_nil, Meaning, Stream, ended_by, ending_signals, items_then, signals, Accept, HubId, Feed as FeedOf, Ending, Open, Done, Failed, Signal, Next, Complete, Error}
+use Rattle.rsx_sources.specs.Prelude.{front_of, published_at, reads_hub, is_nil, Meaning, Stream, ended_by, ending_signals, signals_then, items_then, signals, signals_then, Accept, HubId, Feed as FeedOf, Ending, Open, Done, Failed, Signal, Next, Complete, Error}
 use Rattle.rsx_sources.specs.declared.machine.Machine.{Ghosts as Machine}
 use Rattle.rsx_tree.specs.Prelude.{EdgeView, edge_view, is_live, is_room_for, IsReadAt, IsRowReadAt, IsTreeReadAt, count_before, HasReadAll as HasNodeReadAll, HaveReadAll, TreeHasReadAll, offers}
 use Rattle.rsx_tree.specs.declared.edge.EdgeState.TheVariants.{Live, Ended, Closed}
 use Rattle.rsx_subscriber.proofs.Names.{numbered_name}
+use Rattle.rsx_subscriber.proofs.Values.{value_there}
 use Rattle.rsx_graph.specs.Limits.{HaveCarriedFewer, HaveFewNodes}
 use Rattle.rsx_graph.specs.Read.{HaveAllRead, HaveTakenFewer, WaitForOne, feed_waits, waits_at}
 use Rattle.rsx_graph.proofs.Held.{AllOffer, AllOfferIn, IsHeld, Offers, PartOffers, feed_offers, sub_offers}
@@ -147,10 +150,6 @@ signals_unended [] Done is = cc
 signals_unended [] (Failed c) is = cc
 signals_unended (x ∷ xs) e is = signals_unended xs e is
 
-no_items : {A : Type 0} (xs : List A) → length xs ≡ 0 → xs ≡ []
-no_items [] e = refl
-no_items (x ∷ xs) e = absurd (omega (arith, e))
-
 -- what went out of it is the whole value, and nothing is left
 nothing_left : {T : Type 0} (m : Meaning T) (before : List (Stream T)) (f : Feed T) (e : Expr T) (joins : List ℕ) (v u : Stream T) → PartStands m before f.part e joins (signals v) → f.part.root.demand.asked ≡ UNBOUNDED → f.part.root.demand.sent < UNBOUNDED → IsServed f.part (signals v) (published_then v u) →
     published_then v u ≡ v
@@ -171,7 +170,7 @@ nothing_left {T} m before f e joins v u st asked less d = by_ending v.ending ref
         let none : length u.items ≡ 0 = omega (arith, sent, all, count, least, long, asked, less) in
         let more : length (v.items ++ u.items) < f.part.root.demand.asked = omega (arith, sent, all, long, none, asked, less) in
         let still : u.ending ≡ Open = ended_still (s.ending more) u.ending refl is in
-        λ i. record { items = no_items u.items none i; ending = still i }
+        λ i. record { items = nil_from_length u.items none i; ending = still i }
 
     by_ending : (x : Ending) → v.ending ≡ x → published_then v u ≡ v
     by_ending Open is =
@@ -185,7 +184,7 @@ nothing_left {T} m before f e joins v u st asked less d = by_ending v.ending ref
 fed_whole : {T : Type 0} (m : Meaning T) (before more : List (Stream T)) (f : Feed T) (e : Expr T) (joins : List ℕ) (v u : Stream T) → IsDone m f → PartStands m before f.part e joins (signals v) → f.part.root.demand.asked ≡ UNBOUNDED → (f.part.root.state ≡ Closed → ⊥) →
     HasReadAll m (values_then before more) f.part → evaluated m (values_then before more) joins e (notes_of f.part.tree) ≡ Some (published_then v u) → published_then v u ≡ v
 fed_whole {T} m before more f e joins v u done st asked unclosed read value =
-    let served = delivered any_machine m (tree_ending_waits m) (tree_settles m) (any_rests m) f.part true (part_quiet m f.part done.quiet done.none) before e joins (signals v) st unclosed refl done.within.nodes done.within.below more (published_then v u) read value in
+    let served = delivered any_machine m (tree_ending_waits m) (tree_asked_enough m) (tree_settles m) (any_rests m) f.part true (part_quiet m f.part done.quiet done.none) before e joins (signals v) st unclosed refl done.within.nodes done.within.below more (published_then v u) read value in
     nothing_left m before f e joins v u st asked done.within.root served
 
 -- ---- feeds and their hubs at rest
@@ -435,7 +434,7 @@ record HaveValues {T : Type 0} (m : Meaning T) (g : Rows T) (h : History T) (tak
   values : AreValues m g.feeds [] h.hubs (values_then taken rest)
 
 fed_taken : {T : Type 0} (m : Meaning T) (g : Rows T) (h : History T) (k : IsAtRest m g h) (rest : List (Stream T)) (i : ℕ) (v : Stream T) (s : HubState T) (p : HubPast T) (e : Expr T) (joins : List ℕ) → HaveValues m g h k.stands.taken rest → slice_get g.hubs i ≡ Some s → slice_get k.stands.taken i ≡ Some v → (source : IsFedBy m g.feeds k.stands.taken i s e joins) → goes_out m source.feed.part ≡ false →
-    ((w : Stream T) (l : List (Stream T)) → slice_get (values_then k.stands.taken rest) i ≡ Some w → l ≡ take i (values_then k.stands.taken rest) → evaluated m l joins e (notes_of source.feed.part.tree) ≡ Some w) →
+    ((w : Stream T) (l : List (Stream T)) → slice_get (values_then k.stands.taken rest) i ≡ Some w → l ≡ take i (values_then k.stands.taken rest) → eval (environment m l joins (notes_of source.feed.part.tree)) e ≡ Some w) →
     ((j : ℕ) (w : Stream T) → j < i → slice_get k.stands.taken j ≡ Some w → IsHeldAt g j w ⊎ (slice_get (values_then k.stands.taken rest) j ≡ Some w)) → slice_get (values_then k.stands.taken rest) i ≡ Some v
 fed_taken {T} m g h k rest i v s p e joins all there took source none value below =
     let taken = k.stands.taken in
@@ -450,8 +449,14 @@ fed_taken {T} m g h k rest i v s p e joins all there took source none value belo
     let R : List (Stream T) → Type 0 = λ l. HasReadAll m l f.part in
     let S : Stream T → Type 0 = λ x. PartStands m (take f.hub taken) f.part e joins (signals x) in
     let done : IsDone m f = record { quiet = feed_quiet m g i s f there source.there (k.quiet i (hub_less g.hubs i s there)); none = none; within = feed_within g.feeds i f k.carried k.nodes source.there } in
-    let is : evaluated m (values_then (take f.hub taken) (take f.hub rest)) joins e (notes_of f.part.tree) ≡ Some (published_then v u.0) = value (published_then v u.0) (values_then (take f.hub taken) (take f.hub rest)) u.1 (sym front ∙ ap (λ n. take n published) here) in
-    let whole = fed_whole m (take f.hub taken) (take f.hub rest) f e joins v u.0 done (subst S same source.stands.part) source.stands.asked source.stands.unclosed (subst R front got) is in
+    let before = values_then (take f.hub taken) (take f.hub rest) in
+    let part = subst S same source.stands.part in
+    let scratch : eval (environment m before joins (notes_of f.part.tree)) e ≡ Some (published_then v u.0) = value (published_then v u.0) before u.1 (sym front ∙ ap (λ n. take n published) here) in
+    let comes = value_there any_machine any_laws m (take f.hub taken) (take f.hub rest) f.part e joins (signals v) part in
+    let one : signals_then (signals v) comes.left ≡ published_then v u.0 =
+    some_same (signals_then (signals v) comes.left) (published_then v u.0) (sym (until_stop_law m before joins (notes_of f.part.tree) e (signals_then (signals v) comes.left) comes.value) ∙ scratch) in
+    let is : evaluated m before joins e (notes_of f.part.tree) ≡ Some (published_then v u.0) = comes.value ∙ ap Some one in
+    let whole = fed_whole m (take f.hub taken) (take f.hub rest) f e joins v u.0 done part source.stands.asked source.stands.unclosed (subst R front got) is in
     u.1 ∙ ap Some whole
 
 -- ---- each hub is held back, or took in its value
@@ -488,11 +493,11 @@ next_settled {T} m g h k rest i v s p all took there past below = by_test (waits
     held (fed e joins) source waits = fed_held m g h k i v s p e joins st there took source (sym (out_is e joins source) ∙ or_other (is_some (waiting s)) (feed_waits m (feed_of g.feeds i)) (unwaited e joins source) waits) waits
 
     of_feed : (e : Expr T) (joins : List ℕ) (source : IsFedBy m g.feeds k.stands.taken i s e joins) → IsValue m g.feeds (take i (values_then k.stands.taken rest)) (fed e joins) value.0 → (w : Stream T) (l : List (Stream T)) → slice_get (values_then k.stands.taken rest) i ≡ Some w → l ≡ take i (values_then k.stands.taken rest) →
-        evaluated m l joins e (notes_of source.feed.part.tree) ≡ Some w
+        eval (environment m l joins (notes_of source.feed.part.tree)) e ≡ Some w
     of_feed e joins source is w l at whole =
         let count : length (take i (values_then k.stands.taken rest)) ≡ i = take_length i (values_then k.stands.taken rest) (hub_less (values_then k.stands.taken rest) i w at) in
         let own : source.feed ≡ is.0 = some_same source.feed is.0 (sym source.there ∙ (ap (λ n. feed_of g.feeds n) (sym count) ∙ is.1)) in
-        ap (λ f. evaluated m l joins e (notes_of f.part.tree)) own ∙ (ap (λ x. evaluated m x joins e (notes_of is.0.part.tree)) whole ∙ (is.2 ∙ (sym value.1 ∙ at)))
+        ap (λ f. eval (environment m l joins (notes_of f.part.tree)) e) own ∙ (ap (λ x. eval (environment m x joins (notes_of is.0.part.tree)) e) whole ∙ (is.2 ∙ (sym value.1 ∙ at)))
 
     whole : (src : Source T) → SourceStands m g.feeds k.stands.taken i v s src → IsValue m g.feeds (take i (values_then k.stands.taken rest)) src value.0 → waits_at m g i s ≡ false → slice_get (values_then k.stands.taken rest) i ≡ Some v
     whole (emitted w) source is none = value.1 ∙ ap Some (is ∙ sym (emitted_whole s v w st.taken_in st.ended source.1 (or_first (is_some (waiting s)) (feed_waits m (feed_of g.feeds i)) none)))
@@ -515,7 +520,7 @@ same_value : {T : Type 0} (m : Meaning T) (feeds : List (Feed T)) (before : List
 same_value m feeds before (emitted x) v w a b = a ∙ sym b
 same_value m feeds before (fed e joins) v w a b =
     let same : a.0 ≡ b.0 = some_same a.0 b.0 (sym a.1 ∙ b.1) in
-    some_same v w (sym a.2 ∙ (ap (λ f. evaluated m before joins e (notes_of f.part.tree)) same ∙ b.2))
+    some_same v w (sym a.2 ∙ (ap (λ f. eval (environment m before joins (notes_of f.part.tree)) e) same ∙ b.2))
 
 pub same_values : {T : Type 0} (m : Meaning T) (feeds : List (Feed T)) (before : List (Stream T)) (ps : List (HubPast T)) (vs ws : List (Stream T)) → AreValues m feeds before ps vs → AreValues m feeds before ps ws → vs ≡ ws
 same_values m feeds before [] vs ws a b = a ∙ sym b

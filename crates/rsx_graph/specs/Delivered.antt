@@ -3,7 +3,7 @@ use Rattle.rsx_graph.specs.Kinds.{AreValues, Rows, Subscription, all_readers, no
 use Rattle.std.specs.Prelude.{◌≡◌, ⊤, ℕ, ◌<◌, ◌≤◌, List, [], ◌∷◌, length, Some}
 use Rattle.rsx_graph_state.specs.Prelude.{History}
 use Rattle.rsx_subscriber.specs.Prelude.{IsLive, IsServed, IsWithin, Past}
-use Rattle.rsx_subscriber.specs.Stands.{evaluated}
+use Rattle.rsx_model.specs.Eval.{environment, eval}
 use Rattle.rsx_sources.specs.Prelude.{Meaning, Stream}
 use Rattle.rsx_graph.specs.Limits.{HaveCarriedFewer}
 use Rattle.rsx_graph.specs.Stands.{GraphStands, GraphState}
@@ -17,7 +17,7 @@ HaveOneMember g = (hub : ℕ) → hub < length g.hubs → all_readers hub g.feed
 -- there are; and where it asked for more than there are and the value has an ending, it got the ending too
 pub record IsDelivered {T : Type 0} (m : Meaning T) (published : List (Stream T)) (sub : Subscription T) (past : Past T) : Type 0 where
   pub value : Stream T
-  pub scratch : evaluated m published past (notes_of sub.part.tree) ≡ Some value
+  pub scratch : eval (environment m published past.joins (notes_of sub.part.tree)) past.expression ≡ Some value
   pub served : IsServed sub past value
 
 -- so did each live subscriber, as long as no edge of its tree has carried 2^63-1 items

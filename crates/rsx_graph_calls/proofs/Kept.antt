@@ -8,7 +8,7 @@ use Rattle.rsx_graph_state.specs.declared.feed.Feed.{Feed}
 use Rattle.rsx_sources.specs.Prelude.{Meaning, HubId, HubKind, Move, Ask, Send, Take, Pick, Row, Accept, SubId, Tree, Sub, Feed as FeedOf, Signal}
 use Rattle.rsx_graph_calls.specs.Edits.{NameHubs, with_fed_hub, with_hub}
 use Rattle.rsx_graph_calls.specs.Publishes.{with_published}
-use Rattle.rsx_graph_calls.specs.Regions.{AllKept, IsKept, RegionLists, RegionsStand, region_in, senders_in, with_fed_regions}
+use Rattle.rsx_graph_calls.specs.Regions.{IsKept, RegionLists, RegionsStand, region_in, senders_in, with_fed_regions}
 use Rattle.rsx_graph_calls.specs.Senders.{senders_into}
 use Rattle.rsx_graph_calls.proofs.Beside.{kept_fed, kept_hub, kept_published, kept_same}
 use Rattle.rsx_graph_calls.proofs.Subscribed.{new_joins_there}

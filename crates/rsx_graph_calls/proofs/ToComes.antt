@@ -8,6 +8,7 @@ use Rattle.rsx_graph_state.specs.Prelude.{AreValues, IsValue, History, HubPast, 
 use Rattle.rsx_graph_state.proofs.Graphs.{owed_none, owed_open}
 use Rattle.rsx_rooted.specs.Inboxes.{waiting_of}
 use Rattle.rsx_subscriber.specs.Prelude.{Expr, IsUnended, counts_in, more_after, published_then, values_then, IsPartResidual, Part, PartStands, evaluated, comes_out, notes_of, IsStillOwed, standing_of, EdgeState, Inputs, End, More', Node}
+use Rattle.rsx_model.proofs.UntilStop.{until_stop_law}
 use Rattle.rsx_pipe.proofs.Signals.{some_same}
 use Rattle.rsx_graph_state.specs.declared.feed.Feed.{Feed}
 use Rattle.rsx_sources.specs.Prelude.{IsBehind, Reading, published_at, Meaning, unchosen, Stream, ended_by, ending_signals, signals, SubId, Ending, Open, Done, Failed, Next}
@@ -89,7 +90,7 @@ fed_to_come {M} {T} mc lw m feeds front waiting back i v u s e joins many at k r
     let own : feed_of feeds (length (values_then front waiting)) ≡ Some f = ap (λ n. feed_of feeds n) (sym number) ∙ k.there in
     let value : evaluated m (values_then front waiting) joins e (notes_of mc f.part.tree) ≡ Some (published_then v u) =
     there.value ∙ ap Some (then_signals v there.left ∙ left_same mc m front waiting f.part e joins v there.left u many part there.comes st.unclosed residual) in
-    (f, own, value)
+    (f, own, until_stop_law m (values_then front waiting) joins (notes_of mc f.part.tree) e (published_then v u) value)
 
 next_to_come : {M T : Type 0} (mc : Machine M T) (lw : Laws mc) (m : Meaning T) (feeds : List (Feed M)) (front waiting back : List (Stream T)) (i : ℕ) (v u : Stream T) (s : HubState T) (p : HubPast T) → length waiting ≡ length front → i ≡ length front →
     HubStands mc m feeds (front ++ v ∷ back) i v s p → IsToCome mc m waiting s (feed_of feeds (length waiting)) u → IsValue mc m feeds (values_then front waiting) p.source (published_then v u)

@@ -1,5 +1,5 @@
 -- The regions of the senders of an expression's edges that cross, each of which joins two regions.
-use Rattle.std.specs.Prelude.{◌≡◌, ℕ, ◌+◌, Bool, true, false, if◌then◌else◌, List, [], ◌∷◌, ◌++◌, length, map}
+use Rattle.std.specs.Prelude.{◌≡◌, ℕ, ◌+◌, Bool, if◌then◌else◌, List, [], ◌∷◌, ◌++◌, length, map}
 use Rattle.rsx_model.specs.Region.{region_from, region_of, worker_here}
 use Rattle.rsx_model.specs.Shape.{children}
 use Rattle.rsx_model.specs.declared.expr.Expr.{Expr}

@@ -1,8 +1,8 @@
 -- In an idle tree of which more is asked than it sent, some node waits for the hub that it reads.
-use Rattle.std.proofs.Common.{◌≡◌, inl, inr, ℕ, zero, suc, ◌+◌, ◌<◌, ◌≤◌, ◌^◌, Bool, true, false, ◌&&◌, nat_lt, List, ◌∷◌, refl, ap, sym, ◌∙◌, subst, arith, Option, Some, None, option_map, slice_get}
+use Rattle.std.proofs.Common.{◌≡◌, inl, inr, ℕ, zero, suc, ◌+◌, ◌<◌, ◌≤◌, ◌^◌, Bool, true, false, ◌&&◌, List, ◌∷◌, refl, ap, sym, ◌∙◌, subst, arith, Option, Some, None, option_map, slice_get}
 use Rattle.std.specs.Prelude.{IfNone}
 use Rattle.std.proofs.lemmas.Option.{same_Some}
-use Rattle.std.proofs.lemmas.Bool.{cases_lt, both_ways, lt-ltb}
+use Rattle.std.proofs.lemmas.Bool.{both_ways, lt-ltb}
 use Rattle.rsx_types.proofs.Options.{none_from_no_some}
 use Rattle.rsx_sources.specs.Prelude.{Meaning, Signal, AreWithin, CanStep, front_of}
 use Rattle.rsx_sources.specs.Counts.{IsHungry}
@@ -18,7 +18,7 @@ use Rattle.rsx_tree.specs.Balance.{sent_over, IsRowBalanced, IsRowWithin}
 use Rattle.rsx_tree.specs.Driven.{IsRowIdle}
 use Rattle.rsx_tree.specs.Stepped.{over}
 use Rattle.rsx_tree.proofs.Drives.{send_anywhere}
-use Rattle.rsx_tree.proofs.Idles.{IsNodeStill, Waits as EndingWaits, can_pass_live, idle_below, idle_beside, live_still}
+use Rattle.rsx_tree.proofs.Idles.{IsAskedEnough, IsNodeStill, Waits as EndingWaits, asked_more, can_pass_live, idle_below, idle_beside, live_still}
 use Rattle.rsx_graph_moves.specs.Idle.{LacksAll}
 use Rattle.rsx_graph_moves.specs.Waiting.{Waits, WaitsIn, lacks}
 
@@ -34,11 +34,6 @@ no_step b n asked sent still can = elim can [
 within_row : {M : Type 0} (t : Inputs M) → IsRowWithin t → AreWithin (sent_over t)
 within_row End w = tt
 within_row (More' e n p below q beside) w = (w.0, within_row beside w.2)
-
--- a live edge over which fewer items went than its receiver wants, and no Ask is enabled, was asked for more than went
-asked_more : (a k c : ℕ) (v : Bool) → v ≡ true → v && nat_lt a k ≡ false → c < k → c < a
-asked_more a k c true e f g = elim (cases_lt a k) [ inl x ↦ absurd (both_ways (nat_lt a k) f (lt-ltb a k x)) | inr y ↦ omega (arith, y, g) ]
-asked_more a k c false e f g = cc
 
 -- the receiver takes what its input offers, so that offers nothing
 silent : {M T : Type 0} (b : Machine M T) (m : Meaning T) (r : M) (i : ℕ) (e : Edge) (n : M) (s : Signal T) → ((f : Front) → b.takes r i f ≡ true) → is_live e.state ≡ true → e.demand.sent < e.demand.asked → b.waiting m n ≡ Some s → can_send_over b m r i (edge_view e) n ≡ false → ⊥
@@ -67,10 +62,10 @@ abbrev WantsMore : {M T : Type 0} → Machine M T → M → ℕ → ℕ → ℕ 
 WantsMore b r i asked sent t =
     (j c : ℕ) × (slice_get (sent_over t) j ≡ Some c) × (b.done r (i + j) ≡ false) × ((f : Front) → b.takes r (i + j) f ≡ true) × (c < b.wanted r (i + j) asked sent)
 
-row_waits : {M T : Type 0} (b : Machine M T) (m : Meaning T) → Shows b m → EndingWaits b m → Hungers b → (r : M) (i asked sent : ℕ) (t : Inputs M) → i + size t ≤ 2 ^ 64 → IsRowIdle b m r i asked sent t → IsRowBalanced b r i t → IsRowWithin t → WantsMore b r i asked sent t → SomeWaits b t
-row_waits b m shows ends hungers r i asked sent End small idle balanced within want = let at = want.2 in cc
-row_waits {M} {T} b m shows ends hungers r i asked sent (More' e n p below q beside) small idle balanced within want =
-    by_place (λ under w. row_waits b m shows ends hungers n 0 e.demand.asked e.demand.sent below (omega (arith, small)) (idle_below b m r i asked sent e n p below q beside small idle) under within.1 w) (λ w. row_waits b m shows ends hungers r (i + 1) asked sent beside (omega (arith, small)) (idle_beside b m r i asked sent e n p below q beside small idle) balanced.1 within.2 w) want.0 want.1 want.2 want.3 want.4 want.5
+row_waits : {M T : Type 0} (b : Machine M T) (m : Meaning T) → Shows b m → EndingWaits b m → IsAskedEnough b m → Hungers b → (r : M) (i asked sent : ℕ) (t : Inputs M) → i + size t ≤ 2 ^ 64 → IsRowIdle b m r i asked sent t → IsRowBalanced b r i t → IsRowWithin t → WantsMore b r i asked sent t → SomeWaits b t
+row_waits b m shows ends enough hungers r i asked sent End small idle balanced within want = let at = want.2 in cc
+row_waits {M} {T} b m shows ends enough hungers r i asked sent (More' e n p below q beside) small idle balanced within want =
+    by_place (λ under w. row_waits b m shows ends enough hungers n 0 e.demand.asked e.demand.sent below (omega (arith, small)) (idle_below b m r i asked sent e n p below q beside small idle) under within.1 w) (λ w. row_waits b m shows ends enough hungers r (i + 1) asked sent beside (omega (arith, small)) (idle_beside b m r i asked sent e n p below q beside small idle) balanced.1 within.2 w) want.0 want.1 want.2 want.3 want.4 want.5
   where
     -- what is below the first edge, and what is beside it
     Under : Type 0
@@ -106,7 +101,7 @@ row_waits {M} {T} b m shows ends hungers r i asked sent (More' e n p below q bes
       | inr o ↦
           let live : is_live e.state ≡ true = ap is_live o.0 in
           let here = idle 0 (omega (arith, small)) in
-          let more : e.demand.sent < e.demand.asked = asked_more e.demand.asked (b.wanted r i asked sent) e.demand.sent (is_live e.state) live here.0 w in
+          let more : e.demand.sent < e.demand.asked = asked_more b m enough r i asked sent (edge_view e) n f live here.0 here.1 w in
           let nothing : b.waiting m n ≡ None = none_from_no_some (b.waiting m n) (λ s x. silent b m r i e n s f live more x here.1) in
           let still = live_still b e n live here.2 in
           elim o.1 [
@@ -138,8 +133,8 @@ row_waits {M} {T} b m shows ends hungers r i asked sent (More' e n p below q bes
 abbrev pub OneWaits : {M T : Type 0} → Machine M T → Edge → Node M → Type 0
 OneWaits b root t = (at : ℕ) × (hub : ℕ) × (at < 2 ^ 32) × Waits b root t at hub
 
-pub tree_waits : {M T : Type 0} (b : Machine M T) (m : Meaning T) → Shows b m → EndingWaits b m → Hungers b → (root : Edge) (t : Node M) → LacksAll b m root t → OneWaits b root t
-tree_waits {M} {T} b m shows ends hungers root t h = elim h.balanced [
+pub tree_waits : {M T : Type 0} (b : Machine M T) (m : Meaning T) → Shows b m → EndingWaits b m → IsAskedEnough b m → Hungers b → (root : Edge) (t : Node M) → LacksAll b m root t → OneWaits b root t
+tree_waits {M} {T} b m shows ends enough hungers root t h = elim h.balanced [
   | inl over_is ↦ absurd (no_step b t.machine root.demand.asked root.demand.sent still (ends t.machine root.demand.asked root.demand.sent over_is h.nothing h.more))
   | inr k ↦ deeper k.0 k.1 k.2
 ]
@@ -169,7 +164,7 @@ tree_waits {M} {T} b m shows ends hungers root t h = elim h.balanced [
               let D : ℕ → Type 0 = λ l. b.done t.machine l ≡ false in
               let F : ℕ → Type 0 = λ l. (f : Front) → b.takes t.machine l f ≡ true in
               let W : ℕ → Type 0 = λ l. k.c < b.wanted t.machine l root.demand.asked root.demand.sent in
-              let found = row_waits b m shows ends hungers t.machine 0 root.demand.asked root.demand.sent t.inputs (omega (arith, few)) row_idle under h.within (j, k.c, k.at, subst D plus k.open_still, subst F plus k.takes_any, subst W plus k.wants) in
+              let found = row_waits b m shows ends enough hungers t.machine 0 root.demand.asked root.demand.sent t.inputs (omega (arith, few)) row_idle under h.within (j, k.c, k.at, subst D plus k.open_still, subst F plus k.takes_any, subst W plus k.wants) in
               let l = found.2 in
               (suc found.0, found.1, omega (arith, l, few), (none, found.3))
           | inr k ↦ (0, hub_of k.0, omega arith, (none, ap (option_map hub_of) k.1))
@@ -189,6 +184,6 @@ none_left {M} {T} b root t None read is none h = below
 none_left b root t (Some a) read is none h = tt
 
 -- then the tree isn't one in which a node waits
-pub none_lacks : {M T A : Type 0} (b : Machine M T) (m : Meaning T) → Shows b m → EndingWaits b m → Hungers b → (root : Edge) (t : Node M) (o : Option A) → IfNone o ((at hub : ℕ) → at < 2 ^ 32 → Waits b root t at hub → ⊥) → IfNone o (LacksAll b m root t → ⊥)
-none_lacks b m shows ends hungers root t None h = λ k. let w = tree_waits b m shows ends hungers root t k in h w.0 w.1 w.2 w.3
-none_lacks b m shows ends hungers root t (Some a) h = tt
+pub none_lacks : {M T A : Type 0} (b : Machine M T) (m : Meaning T) → Shows b m → EndingWaits b m → IsAskedEnough b m → Hungers b → (root : Edge) (t : Node M) (o : Option A) → IfNone o ((at hub : ℕ) → at < 2 ^ 32 → Waits b root t at hub → ⊥) → IfNone o (LacksAll b m root t → ⊥)
+none_lacks b m shows ends enough hungers root t None h = λ k. let w = tree_waits b m shows ends enough hungers root t k in h w.0 w.1 w.2 w.3
+none_lacks b m shows ends enough hungers root t (Some a) h = tt

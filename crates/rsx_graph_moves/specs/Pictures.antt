@@ -46,9 +46,22 @@ last_of note.Nothing = None
 last_of (note.Picks choices) = option_map recorded (slice_get choices (length choices - 1))
 last_of (note.Ended input) = option_map last.From input
 
+-- how many signals stand in the queue of an edge that crosses: a closed edge keeps none
+abbrev pub kept_in : EdgeState → Option ℕ → Option ℕ
+kept_in state.Live crossing = crossing
+kept_in state.Ended crossing = crossing
+kept_in state.Closed crossing = option_map (λ k. 0) crossing
+
+-- what a node offers over its edge: over a closed one that crosses nothing, since the queue offers it
+abbrev pub offered_over : EdgeState → Option ℕ → Offer → Offer
+offered_over state.Live crossing o = o
+offered_over state.Ended crossing o = o
+offered_over state.Closed None o = o
+offered_over state.Closed (Some k) o = offer.Nothing
+
 -- a node over its edge to this receiver, in whose queue for it so many signals wait
 abbrev pub look : {M T : Type 0} → Machine M T → Nodes M T → Option ℕ → Option ℕ → Edge → M → NodeLook
-look b d receiver queued e n = record { operator = d.operator_of n; receiver = receiver; asked = e.demand.asked; sent = e.demand.sent; edge = edge_look e.state; crossing = d.crossing_of n; queued = queued; lanes = d.lanes_of n; offer = offer_of (b.shown n); last = last_of (b.recorded n) }
+look b d receiver queued e n = record { operator = d.operator_of n; receiver = receiver; asked = e.demand.asked; sent = e.demand.sent; edge = edge_look e.state; crossing = kept_in e.state (d.crossing_of n); queued = queued; lanes = d.lanes_of n; offer = offered_over e.state (d.crossing_of n) (offer_of (b.shown n)); last = last_of (b.recorded n) }
 
 -- the nodes of a row and those below them, in pre-order, where the first has the number `first`; it is the input with the number
 -- `input` of the receiver r

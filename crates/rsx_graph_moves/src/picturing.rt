@@ -2,7 +2,7 @@
 
 ghost use Rattle.std.specs.Prelude.{◌≡◌, ◌++◌, ◌≤◌, OnOk, IfOk, IfErr, Some, length, slice_get};
 ghost use Rattle.rsx_graph_state.specs.Answers.{IsLookRefusal};
-ghost use Rattle.rsx_graph_moves.specs.Pictures.{HasLooks, edge_look, last_of, look, offer_of, recorded, row_looks, tree_looks};
+ghost use Rattle.rsx_graph_moves.specs.Pictures.{HasLooks, edge_look, kept_in, last_of, look, offer_of, offered_over, recorded, row_looks, tree_looks};
 
 use rsx_graph_state::Refusal;
 use rsx_pipe::Nodes;
@@ -94,16 +94,17 @@ fn look_at<N: Nodes>(
     ensures { IfOk result (λ l. l ≡ look N.Machine N.Nodes.own receiver queued edge.now machine.now) }
 {
     let note = machine.note(alloc)?;
+    let crossing = machine.crossing();
     Ok(NodeLook {
         operator: machine.operator(),
         receiver,
         asked: edge.demand.asked,
         sent: edge.demand.sent,
         edge: look_of_edge(edge.state),
-        crossing: machine.crossing(),
+        crossing: kept_in(edge.state, crossing),
         queued,
         lanes: machine.lanes(),
-        offer: offered(machine.front()),
+        offer: offered_over(edge.state, crossing, offered(machine.front())),
         last: last_of(&note),
     })
 }
@@ -142,6 +143,33 @@ fn look_of_edge(state: EdgeState) -> EdgeLook
         EdgeState::Live => EdgeLook::Live,
         EdgeState::Ended => EdgeLook::Ended,
         EdgeState::Closed => EdgeLook::Closed,
+    }
+}
+
+/// How many signals stand in the queue of an edge that crosses: a closed edge keeps none. Its node holds them until it is let go, and
+/// nothing can come of them.
+fn kept_in(state: EdgeState, crossing: Option<u64>) -> Option<u64>
+    ensures { result ≡ kept_in state crossing }
+{
+    match state {
+        EdgeState::Live | EdgeState::Ended => crossing,
+        EdgeState::Closed => match crossing {
+            Some(_) => Some(0),
+            None => None,
+        },
+    }
+}
+
+/// What a node offers over its edge: over a closed one that crosses nothing, since the queue offers it.
+fn offered_over(state: EdgeState, crossing: Option<u64>, offer: Offer) -> Offer
+    ensures { result ≡ offered_over state crossing offer }
+{
+    match state {
+        EdgeState::Live | EdgeState::Ended => offer,
+        EdgeState::Closed => match crossing {
+            Some(_) => Offer::Nothing,
+            None => offer,
+        },
     }
 }
 

@@ -9,7 +9,7 @@ use Rattle.rsx_sources.specs.Prelude.{reads_hub}
 use Rattle.rsx_tree.specs.declared.inputs.Inputs.{Inputs, End, More'}
 use Rattle.rsx_tree.specs.Edges.{is_live}
 use Rattle.rsx_tree.specs.Handed as Tree
-use Rattle.rsx_tree.specs.Handed.{IsHandedOut, IsNodeHanded, IsRowHanded, IsTakenWhere, OneOf, has_room_in, is_room_for, reader_at, readers_in, room_at, times}
+use Rattle.rsx_tree.specs.Handed.{IsHandedOut, IsNodeHanded, IsRowHanded, IsTakenWhere, OneOf, has_room_in, reader_at, readers_in, room_at, times}
 use Rattle.rsx_tree.proofs.Taking.{tree_handed}
 use Rattle.rsx_pipe.specs.Part.{Part}
 use Rattle.rsx_pipe.specs.Published as Published

@@ -10,6 +10,7 @@ use Rattle.rsx_hub.specs.Member.{ending_taken}
 use Rattle.rsx_hub.specs.Waiting.{is_open}
 use Rattle.rsx_rooted.specs.Inboxes.{waiting_of}
 use Rattle.rsx_subscriber.specs.Prelude.{Expr, more_after, published_then, values_then, evaluated, IsTaken, notes_of, Past}
+use Rattle.rsx_model.proofs.UntilStop.{until_stop_law}
 use Rattle.rsx_pipe.proofs.Signals.{some_same}
 use Rattle.rsx_graph_state.specs.declared.feed.Feed.{Feed}
 use Rattle.rsx_subscriber.proofs.Sentence.{holds, values_then-length}
@@ -91,7 +92,7 @@ fed_value {M} {T} mc lw m feeds front waiting back i v s e joins many at k =
     let own : feed_of feeds (length (values_then front waiting)) ≡ Some f = ap (λ n. feed_of feeds n) (sym number) ∙ k.there in
     let value : evaluated m (values_then front waiting) joins e (notes_of mc f.part.tree) ≡ Some (published_then v there.left) =
     ap (λ l. evaluated m (values_then l waiting) joins e (notes_of mc f.part.tree)) (sym before) ∙ (there.value ∙ ap Some (then_signals st.value there.left ∙ ap (λ x. published_then x there.left) same)) in
-    (there.left, (f, own, value))
+    (there.left, (f, own, until_stop_law m (values_then front waiting) joins (notes_of mc f.part.tree) e (published_then v there.left) value))
 
 next_value : {M T : Type 0} (mc : Machine M T) (lw : Laws mc) (m : Meaning T) (feeds : List (Feed M)) (front waiting back : List (Stream T)) (i : ℕ) (v : Stream T) (s : HubState T) (p : HubPast T) → length waiting ≡ length front → i ≡ length front → HubStands mc m feeds (front ++ v ∷ back) i v s p → HasNext mc m feeds (values_then front waiting) p.source v
 next_value {M} {T} mc lw m feeds front waiting back i v s p many at k = by_source p.source k.source

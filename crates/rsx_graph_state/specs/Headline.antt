@@ -2,7 +2,8 @@
 use Rattle.rsx_sources.specs.declared.machine.Machine.{Ghosts as Machine}
 use Rattle.std.specs.Prelude.{◌≡◌, List, [], ◌∷◌, ◌++◌, length, Some}
 use Rattle.rsx_graph_state.specs.Holding.{AllHold}
-use Rattle.rsx_subscriber.specs.Prelude.{evaluated, notes_of}
+use Rattle.rsx_model.specs.Eval.{environment, eval}
+use Rattle.rsx_subscriber.specs.Prelude.{notes_of}
 use Rattle.rsx_graph_state.specs.declared.feed.Feed.{Feed}
 use Rattle.rsx_sources.specs.Prelude.{Meaning, Stream}
 use Rattle.rsx_graph_state.specs.History.{History, HubPast, Source, emitted, fed}
@@ -12,7 +13,7 @@ use Rattle.rsx_graph_state.specs.Stands.{Rows, feed_of}
 -- the hubs before it, under its joins and what the nodes of the feed recorded
 abbrev pub IsValue : {M T : Type 0} → Machine M T → Meaning T → List (Feed M) → List (Stream T) → Source T → Stream T → Type 0
 IsValue mc m feeds before (emitted w) v = v ≡ w
-IsValue {M} {T} mc m feeds before (fed e joins) v = (f : Feed M) × (feed_of feeds (length before) ≡ Some f) × (evaluated m before joins e (notes_of mc f.part.tree) ≡ Some v)
+IsValue {M} {T} mc m feeds before (fed e joins) v = (f : Feed M) × (feed_of feeds (length before) ≡ Some f) × (eval (environment m before joins (notes_of mc f.part.tree)) e ≡ Some v)
 
 -- the values of hubs, in the order of their numbers, behind those with these values
 abbrev pub AreValues : {M T : Type 0} → Machine M T → Meaning T → List (Feed M) → List (Stream T) → List (HubPast T) → List (Stream T) → Type 0

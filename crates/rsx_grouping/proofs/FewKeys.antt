@@ -1,5 +1,5 @@
 -- A key that is looked for among a few, one by one.
-use Rattle.std.proofs.Common.{◌≡◌, ℕ, suc, Bool, true, false, nat_eq, nat_lt, List, [], ◌∷◌, length, slice_get, Option, Some, None, IfSome, refl, ap, sym, ◌∙◌, arith, rules, subst}
+use Rattle.std.proofs.Common.{◌≡◌, ℕ, suc, Bool, true, false, nat_eq, nat_lt, List, [], ◌∷◌, length, slice_get, Option, Some, None, IfSome, refl, ap, sym, ◌∙◌, arith, subst}
 use Rattle.std.specs.Prelude.{is_some, cond}
 use Rattle.std.specs.List.{position, position_or_len}
 use Rattle.std.specs.Set.{is_member}

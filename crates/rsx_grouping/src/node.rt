@@ -240,6 +240,7 @@ impl<T: Drop> Machine for GroupByNode<T> {
     ghost use Rattle.rsx_grouping.specs.GroupBy.{group_comes_out, group_waiting, group_shown, group_takes, group_picks, group_recording, group_recorded, group_ended, group_done, group_counted, group_wanted, IsPoppedGroup};
     ghost use Rattle.rsx_grouping.specs.Laws.{group_drops, group_ends, group_done_drops, group_settles, group_ending_waits, group_hungry};
     ghost use Rattle.rsx_grouping.specs.declared.node.GroupByNode.{GroupByNode};
+    ghost use Rattle.std.proofs.lemmas.Bool.{true≢false};
 
     ghost comes_out = { group_comes_out };
 
@@ -268,6 +269,8 @@ impl<T: Drop> Machine for GroupByNode<T> {
     ghost counted = { group_counted };
 
     ghost wanted = { group_wanted };
+
+    ghost accepts = { λ n a s. true };
 
     ghost popped = { IsPoppedGroup };
 
@@ -503,6 +506,11 @@ impl<T: Drop> Machine for GroupByNode<T> {
         self.got
     }
 
+    #[inline(always)]
+    fn accepts_demand(&self, asked: u64, sent: u64) -> bool {
+        true
+    }
+
     fn note(&self, alloc: Global) -> Result<Note, NoMemory> {
         let choices = self.choices.choices(alloc)?;
         Ok(Note::Picks(choices))
@@ -542,4 +550,6 @@ impl<T: Drop> Machine for GroupByNode<T> {
     ghost ending_waits = { group_ending_waits };
 
     ghost hungry = { group_hungry };
+
+    ghost asked_enough = { λ n a s e. absurd (true≢false e) };
 }

@@ -154,6 +154,7 @@ impl<T: Drop> Machine for HubLeaf<T> {
     ghost use Rattle.rsx_hub.specs.Leaf.{LeafState, leaf_comes_out, leaf_waiting, leaf_shown, leaf_popped, leaf_reads, leaf_rooms, leaf_counted, leaf_took};
     ghost use Rattle.rsx_hub.specs.Laws.{leaf_shows, leaf_popped_alike, leaf_ends, leaf_ends_reading, leaf_hungry};
     ghost use Rattle.std.proofs.Common.{rules};
+    ghost use Rattle.std.proofs.lemmas.Bool.{true≢false};
 
     ghost comes_out = { leaf_comes_out };
 
@@ -182,6 +183,8 @@ impl<T: Drop> Machine for HubLeaf<T> {
     ghost counted = { leaf_counted };
 
     ghost wanted = { λ n i a s. 0 };
+
+    ghost accepts = { λ n a s. true };
 
     ghost popped = { leaf_popped };
 
@@ -324,6 +327,11 @@ impl<T: Drop> Machine for HubLeaf<T> {
         0
     }
 
+    #[inline(always)]
+    fn accepts_demand(&self, asked: u64, sent: u64) -> bool {
+        true
+    }
+
     fn note(&self, alloc: Global) -> Result<Note, NoMemory> {
         Ok(Note::Nothing)
     }
@@ -361,4 +369,6 @@ impl<T: Drop> Machine for HubLeaf<T> {
     ghost ending_waits = { λ m n asked sent e none more. Prim.search rules };
 
     ghost hungry = { leaf_hungry };
+
+    ghost asked_enough = { λ n a s e. absurd (true≢false e) };
 }

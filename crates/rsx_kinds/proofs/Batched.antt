@@ -1,5 +1,5 @@
 -- A node of any kind makes the batches that its kind makes.
-use Rattle.std.proofs.Common.{◌≡◌, ℕ, suc, Bool, true, false, if◌then◌else◌, None, List, [], ◌∷◌, length, Some, inl, inr, refl, ap, sym, ◌∙◌, subst, ◌≤◌, arith}
+use Rattle.std.proofs.Common.{◌≡◌, ℕ, suc, Bool, true, false, if◌then◌else◌, None, List, [], ◌∷◌, length, Some, inl, inr, refl, ap, sym, ◌∙◌, subst, arith}
 use Rattle.std.proofs.lemmas.Bool.{true≢false}
 use Rattle.rsx_hub.specs.Leaf.{LeafState}
 use Rattle.rsx_rooted.proofs.HubLeaves.{leaf_machine}
@@ -58,6 +58,7 @@ source_machine = record {
   done = λ n i. false;
   counted = source_counted;
   wanted = λ n i a s. 0;
+  accepts = λ n a s. true;
   popped = source_popped;
   reads = source_reads;
   rooms = source_rooms;
@@ -172,6 +173,7 @@ several_machine = record {
   done = several_done;
   counted = several_counted;
   wanted = several_wanted;
+  accepts = λ n a s. true;
   popped = several_popped;
   reads = λ n. None;
   rooms = λ n. false;

@@ -4,7 +4,7 @@ use Rattle.std.specs.Prelude.{ℤ, IfOk}
 use Rattle.rsx_sources.specs.Prelude.{Meaning, listed, range_items, NoMemory, Stream, Note, Nothing, Picks, Ended, HubId, Ending, Open, Done, Failed, Incoming, incoming_of, quiet as quiet_at, GivesItems, ItemsLeft, GivesRange, Reading, published_at}
 use Rattle.rsx_kinds.specs.Prelude.{AllUnrecorded, AreBegun, BeginsWith, Direct, Edge, End, Expr, HasTakenIn, HubState, Inputs, IsBuilt, LeafState, Live, Node, RangeNode, Source, SourceNode, StandAt, TreeNode, any_machine, counts_of, first_fault, first_wants, fold_out-Expr, fresh_edge, fresh_edges, fresh_wants, join, join_at, joins_now, leaf_reads, member_of, new_joins, outs-Hub, outs-Items, outs-Range, reading_of, source_counted}
 use Rattle.rsx_hub.specs.Member.{MemberState, ReadsFromJoin, ending_taken, fresh_member, rest, without}
-use Rattle.rsx_model.specs.Eval.{environment, quiet, meant, joined_value, behind as missing}
+use Rattle.rsx_model.specs.Eval.{environment_until_stop, quiet, meant, joined_value, behind as missing}
 use Rattle.rsx_model.specs.declared.expr.Expr.TheVariants.{Items as ItemsOf, Range as RangeOf, Hub as HubOf}
 use Rattle.rsx_model.proofs.Unfold.{value_Items, value_Range, value_Hub, hub_there}
 use Rattle.rsx_tree.specs.Prelude.{IsOwnerBalanced, IsRowBalanced, sent_over, edge_view, comes_in, out_of, notes_of, edges as edges_in, IsReadAt, IsTreeReadAt, count_before}
@@ -32,7 +32,7 @@ node_of n r = record { machine = n; inputs = r }
 -- a source alone, whose value is that of the expression
 pub built_source : {T : Type 0} (m : Meaning T) (hubs : List (HubState T)) (e : Expr T) (n : SourceNode T) (t : Node (TreeNode T)) → t.machine ≡ Direct (Source n) → t.inputs ≡ End → source_counted n [] 0 →
     ((whole : List (Stream T)) (joins : List ℕ) (leaf : ℕ) → AreBegun hubs whole → StandAt joins leaf (new_joins hubs e) → (v : Stream T) × ((inc : Incoming T) (k : Note) → inc.hubs ≡ whole → any_machine.comes_out m (Direct (Source n)) inc k ≡ quiet_at k v)
-    × ((further : List Note) (at : ℕ) → (meant (environment m whole joins further) e).value at leaf ≡ quiet (slice_get further at) (Some v))) →
+    × ((further : List Note) (at : ℕ) → (meant (environment_until_stop m whole joins further) e).value at leaf ≡ quiet (slice_get further at) (Some v))) →
     IsReadAt (counts_of hubs) (any_machine.reads (Direct (Source n))) → (new_joins hubs e ≡ [] → IsReadAt [] (any_machine.reads (Direct (Source n)))) → fresh_edges e ≡ [] → fresh_wants e ≡ [] → IsBuilt m hubs e t
 built_source {T} m hubs e n t n_is r_is counts values read unread none nothing = record {
   value = λ whole joins further at leaf begun stand.
@@ -72,7 +72,7 @@ built_items : {T : Type 0} (m : Meaning T) (hubs : List (HubState T)) (e : Expr 
 built_items {T} m hubs e v items n t is all fresh n_is r_is =
     let P : Expr T → Type 0 = λ x. IsBuilt m hubs x t in
     subst P (sym is) (built_source m hubs (ItemsOf v) (Items n) t n_is r_is tt
-    (λ whole joins leaf begun stand. (listed v.items, (λ inc k same. fresh m inc k ∙ ap (λ l. quiet_at k (listed l)) all), (λ further at. value_Items (environment m whole joins further) v at leaf)))
+    (λ whole joins leaf begun stand. (listed v.items, (λ inc k same. fresh m inc k ∙ ap (λ l. quiet_at k (listed l)) all), (λ further at. value_Items (environment_until_stop m whole joins further) v at leaf)))
     tt (λ bare. tt) (fresh_Items v) (wants_Items v))
 
 -- the same of a tree that was made unless memory ran out
@@ -90,7 +90,7 @@ built_range : {T : Type 0} (m : Meaning T) (hubs : List (HubState T)) (e : Expr 
 built_range {T} m hubs e a k n t is fresh n_is r_is =
     let P : Expr T → Type 0 = λ x. IsBuilt m hubs x t in
     subst P (sym is) (built_source m hubs (RangeOf a k) (Range n) t n_is r_is tt
-    (λ whole joins leaf begun stand. (listed (range_items m a k), (λ inc d same. fresh m inc d), (λ further at. value_Range (environment m whole joins further) a k at leaf)))
+    (λ whole joins leaf begun stand. (listed (range_items m a k), (λ inc d same. fresh m inc d), (λ further at. value_Range (environment_until_stop m whole joins further) a k at leaf)))
     tt (λ bare. tt) (fresh_Range T a k) (wants_Range T a k))
 
 -- the same of a tree that was made unless memory ran out
@@ -145,18 +145,18 @@ built_hub {T} m hubs e id h mem n t is there fresh from hub_is mem_is missed bef
     subst P (sym is) (built_source m hubs (HubOf id) (Hub n) t n_is r_is (leaf_begins n mem mem_is missed before) values read (λ bare. absurd (some_join (sym (new_joins_Hub T hubs id) ∙ bare))) (fresh_Hub T id) (wants_Hub T id))
   where
     values : (whole : List (Stream T)) (joins : List ℕ) (leaf : ℕ) → AreBegun hubs whole → StandAt joins leaf (new_joins hubs (HubOf id)) → (v : Stream T) × ((inc : Incoming T) (k : Note) → inc.hubs ≡ whole → any_machine.comes_out m (Direct (Source (Hub n))) inc k ≡ quiet_at k v)
-        × ((further : List Note) (at : ℕ) → (meant (environment m whole joins further) (HubOf id)).value at leaf ≡ quiet (slice_get further at) (Some v))
+        × ((further : List Note) (at : ℕ) → (meant (environment_until_stop m whole joins further) (HubOf id)).value at leaf ≡ quiet (slice_get further at) (Some v))
     values whole joins leaf begun stand =
         let w = hub_at hubs whole id.0 h there begun in
         let S : List ℕ → Type 0 = λ l. StandAt joins leaf l in
         let joined : slice_get joins leaf ≡ Some (join h.kind h.count) = (subst S (new_joins_Hub T hubs id) stand).0 ∙ ap Some (join_there hubs id.0 h there) in
         let J : ℕ → Option (Stream T) = λ j. option_map (missing j) (slice_get whole id.0) in
-        let value : joined_value (environment m whole joins []) id.0 leaf ≡ Some (without (join h.kind h.count) w.0) = ap (option_and_then J) joined ∙ ap (option_map (missing (join h.kind h.count))) w.2 in
+        let value : joined_value (environment_until_stop m whole joins []) id.0 leaf ≡ Some (without (join h.kind h.count) w.0) = ap (option_and_then J) joined ∙ ap (option_map (missing (join h.kind h.count))) w.2 in
         let comes : rest (member_of n) (published_at whole n.hub) ≡ without (join h.kind h.count) w.0
         = ap (λ k. rest k (published_at whole n.hub)) mem_is ∙ (ap (λ i. rest mem (published_at whole i)) hub_is ∙ (ap (rest mem) w.3 ∙ from w.1 w.4 w.0 w.5)) in (
           without (join h.kind h.count) w.0,
           (λ inc k same. ap (λ l. quiet_at k (rest (member_of n) (published_at l n.hub))) same ∙ ap (quiet_at k) comes),
-          (λ further at. value_Hub (environment m whole joins further) id at leaf ∙ ap (quiet (slice_get further at)) value),
+          (λ further at. value_Hub (environment_until_stop m whole joins further) id at leaf ∙ ap (quiet (slice_get further at)) value),
         )
 
     read : IsReadAt (counts_of hubs) (leaf_reads n)

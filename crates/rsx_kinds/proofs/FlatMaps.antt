@@ -4,7 +4,7 @@ use Rattle.std.specs.Prelude.{IfOk}
 use Rattle.std.proofs.lemmas.Bool.Decides.{nat_tests}
 use Rattle.std.proofs.lemmas.List.{append-nil}
 use Rattle.rsx_sources.specs.Prelude.{Meaning, NoMemory, Picks, Stage}
-use Rattle.rsx_kinds.specs.Prelude.{AnyNode, Expr, Flat, FlatMap, FlatMapNode, GivesFlatMap, HubState, IsBuilt, IsFlatMap, IsGoing, IsOverOne, IsUnrecorded, MOST_CONCURRENCY, Node, Number, Run, TreeNode, concurrency_fits, environment, first_fault, fold_out-Expr, fresh_edge, fresh_edges, meant, new_joins, outs-Flat, unless}
+use Rattle.rsx_kinds.specs.Prelude.{AnyNode, Expr, Flat, FlatMap, FlatMapNode, GivesFlatMap, HubState, IsBuilt, IsFlatMap, IsGoing, IsOverOne, IsUnrecorded, MOST_CONCURRENCY, Node, Number, Run, TreeNode, concurrency_fits, environment_until_stop, first_fault, fold_out-Expr, fresh_edge, fresh_edges, meant, new_joins, outs-Flat, unless}
 use Rattle.rsx_values.specs.Prelude.{flat_map, written}
 use Rattle.rsx_model.proofs.Unfold.{fault_Flat, or_none, value_Flat}
 use Rattle.rsx_queued.specs.Prelude.{picked, has_ending}
@@ -41,7 +41,7 @@ stands {T} m hubs f c gs b some most n h =
       counted = λ e. h.counted some;
       wanted = flat_wants h.node c h.at_most h.next most;
       value = λ whole joins further at leaf.
-          value_Flat (environment m whole joins further) f c gs b at leaf ∙ picked_value (flat_map m f gs.items) ((meant (environment m whole joins further) b.value).value (at + 1) leaf) (slice_get further at);
+          value_Flat (environment_until_stop m whole joins further) f c gs b at leaf ∙ picked_value (flat_map m f gs.items) ((meant (environment_until_stop m whole joins further) b.value).value (at + 1) leaf) (slice_get further at);
       joins = new_joins_Flat hubs f c gs b;
       edges = fresh_Flat f c gs b;
       wants = wants_Flat f c gs b;

@@ -3,7 +3,7 @@ use Rattle.std.proofs.Common.{◌≡◌, ℕ, false, ◌+◌, List, [], ◌∷�
 use Rattle.std.specs.Prelude.{IfOk}
 use Rattle.std.proofs.lemmas.List.{append-nil}
 use Rattle.rsx_sources.specs.Prelude.{Meaning, NoMemory, Picks, Stage}
-use Rattle.rsx_kinds.specs.Prelude.{AnyNode, Expr, GivesGroups, Group, GroupBy, GroupByNode, HubState, IsBuilt, IsGroupBy, IsOverOne, IsUnrecorded, Node, Run, TreeNode, environment, fold_out-Expr, fresh_edge, fresh_edges, group_counted, group_ended, meant, new_joins, outs-Group, picked}
+use Rattle.rsx_kinds.specs.Prelude.{AnyNode, Expr, GivesGroups, Group, GroupBy, GroupByNode, HubState, IsBuilt, IsGroupBy, IsOverOne, IsUnrecorded, Node, Run, TreeNode, environment_until_stop, fold_out-Expr, fresh_edge, fresh_edges, group_counted, group_ended, meant, new_joins, outs-Group, picked}
 use Rattle.rsx_values.specs.Prelude.{group_by, written}
 use Rattle.rsx_model.proofs.Unfold.{value_Group}
 use Rattle.rsx_kinds.proofs.NodeValues.{picked_value}
@@ -35,7 +35,7 @@ stands {T} m hubs f gs b n h =
       counted = λ e. h.counted;
       wanted = group_wants h.node h.counted;
       value = λ whole joins further at leaf.
-          value_Group (environment m whole joins further) f gs b at leaf ∙ picked_value (group_by m f gs.items) ((meant (environment m whole joins further) b.value).value (at + 1) leaf) (slice_get further at);
+          value_Group (environment_until_stop m whole joins further) f gs b at leaf ∙ picked_value (group_by m f gs.items) ((meant (environment_until_stop m whole joins further) b.value).value (at + 1) leaf) (slice_get further at);
       joins = new_joins_Group hubs f gs b;
       edges = fresh_Group f gs b;
       wants = wants_Group f gs b;

@@ -4,7 +4,7 @@ use Rattle.std.specs.Prelude.{IfOk}
 use Rattle.std.proofs.lemmas.List.{append-nil}
 use Rattle.rsx_sources.specs.Prelude.{Meaning, plain, Signal, Stage, quiet as quiet_at}
 use Rattle.rsx_types.specs.declared.stage.Stage.TheVariants.{Take, Buffer}
-use Rattle.rsx_kinds.specs.Prelude.{Expr, HubState, IsBuilt, IsPlainOver, Node, Number, PlainNode, TreeNode, environment, first_fault, fold_out-Expr, fresh_edge, fresh_edges, meant, new_joins, or_else, plain_counted, stage_fits, start_slot, starts_ended, unless}
+use Rattle.rsx_kinds.specs.Prelude.{Expr, HubState, IsBuilt, IsPlainOver, Node, Number, PlainNode, TreeNode, environment_until_stop, first_fault, fold_out-Expr, fresh_edge, fresh_edges, meant, new_joins, or_else, plain_counted, stage_fits, start_slot, starts_ended, unless}
 use Rattle.rsx_model.specs.declared.check.BadExpr.{BadExpr}
 use Rattle.rsx_model.specs.declared.expr.Expr.TheViews.{Plain as PlainOf, outs-Plain}
 use Rattle.rsx_model.proofs.Unfold.{value_Plain, first_fault_Plain}
@@ -58,7 +58,7 @@ stands m hubs g b below t o fits = record {
   counted = λ still. fresh_counts g o.node o.state o.slot fits still;
   wanted = ap (λ s. wanted_from s 0 0) o.state ∙ starts_wanting g;
   value = λ whole joins further at leaf.
-      value_Plain (environment m whole joins further) g b at leaf ∙ quiet_value (plain m g) ((meant (environment m whole joins further) b.value).value (at + 1) leaf) (slice_get further at);
+      value_Plain (environment_until_stop m whole joins further) g b at leaf ∙ quiet_value (plain m g) ((meant (environment_until_stop m whole joins further) b.value).value (at + 1) leaf) (slice_get further at);
   joins = new_joins_Plain hubs g b;
   edges = fresh_Plain g b;
   wants = wants_Plain g b;

@@ -4,7 +4,7 @@ use Rattle.std.specs.Prelude.{IfOk}
 use Rattle.std.proofs.lemmas.Bool.Decides.{nat_tests}
 use Rattle.std.proofs.lemmas.List.{append-nil}
 use Rattle.rsx_sources.specs.Prelude.{Meaning, NoMemory, quiet as quiet_at}
-use Rattle.rsx_kinds.specs.Prelude.{AnyNode, Expr, HubState, IsBuilt, IsOverOne, IsPublishOn, MOST_PREFETCH, Node, Number, On, TreeNode, environment, first_fault, fold_out-Expr, fresh_edge, fresh_edges, meant, new_joins, outs-On, publish_ended, publish_wanted, quiet, unless, worker_fits}
+use Rattle.rsx_kinds.specs.Prelude.{AnyNode, Expr, HubState, IsBuilt, IsOverOne, IsPublishOn, MOST_PREFETCH, Node, Number, On, TreeNode, environment_until_stop, first_fault, fold_out-Expr, fresh_edge, fresh_edges, meant, new_joins, outs-On, publish_ended, publish_wanted, quiet, unless, worker_fits}
 use Rattle.rsx_model.proofs.Unfold.{fault_On, value_On}
 use Rattle.rsx_kinds.proofs.NodeValues.{quiet_value}
 use Rattle.rsx_kinds.proofs.Single.{StandsFor, single_if}
@@ -35,8 +35,8 @@ stands {T} m hubs k p b most n h =
       counted = λ e. h.counted;
       wanted = ap (λ i. publish_wanted (record { input = i }) 0 0 0) h.input ∙ whole_capacity p (omega arith);
       value = λ whole joins further at leaf.
-          let came = (meant (environment m whole joins further) b.value).value (at + 1) leaf in
-          value_On (environment m whole joins further) k p b at leaf ∙ (ap (quiet (slice_get further at)) (as_it_is came) ∙ quiet_value (λ v. v) came (slice_get further at));
+          let came = (meant (environment_until_stop m whole joins further) b.value).value (at + 1) leaf in
+          value_On (environment_until_stop m whole joins further) k p b at leaf ∙ (ap (quiet (slice_get further at)) (as_it_is came) ∙ quiet_value (λ v. v) came (slice_get further at));
       joins = new_joins_On hubs k p b;
       edges = fresh_On k p b;
       wants = wants_On k p b;

@@ -7,7 +7,7 @@ use Rattle.rsx_sources.specs.Prelude.{Meaning, NoMemory, Picks}
 use Rattle.rsx_values.specs.Prelude.{eager_of, written}
 use Rattle.rsx_delayed.specs.PublishOnEager.{is_last}
 use Rattle.rsx_queued.specs.Prelude.{ended_in}
-use Rattle.rsx_kinds.specs.Prelude.{AnyNode, Expr, HubState, IsBuilt, IsOverOne, IsPublishOnEager, IsUnrecorded, MOST_PREFETCH, Node, Number, OnEager, Run, TreeNode, environment, first_fault, fold_out-Expr, fresh_edge, fresh_edges, meant, new_joins, outs-OnEager, picked, publish_wanted, unless, worker_fits}
+use Rattle.rsx_kinds.specs.Prelude.{AnyNode, Expr, HubState, IsBuilt, IsOverOne, IsPublishOnEager, IsUnrecorded, MOST_PREFETCH, Node, Number, OnEager, Run, TreeNode, environment_until_stop, first_fault, fold_out-Expr, fresh_edge, fresh_edges, meant, new_joins, outs-OnEager, picked, publish_wanted, unless, worker_fits}
 use Rattle.rsx_model.proofs.Unfold.{fault_OnEager, value_OnEager}
 use Rattle.rsx_kinds.proofs.NodeValues.{picked_value}
 use Rattle.rsx_kinds.proofs.Single.{StandsFor, no_picks, single_if}
@@ -35,7 +35,7 @@ stands {T} m hubs k p b most n h =
       counted = λ e. h.counted;
       wanted = ap (λ i. publish_wanted (record { input = i }) 0 0 0) h.input ∙ whole_capacity p (omega arith);
       value = λ whole joins further at leaf.
-          value_OnEager (environment m whole joins further) k p b at leaf ∙ picked_value eager_of ((meant (environment m whole joins further) b.value).value (at + 1) leaf) (slice_get further at);
+          value_OnEager (environment_until_stop m whole joins further) k p b at leaf ∙ picked_value eager_of ((meant (environment_until_stop m whole joins further) b.value).value (at + 1) leaf) (slice_get further at);
       joins = new_joins_OnEager hubs k p b;
       edges = fresh_OnEager k p b;
       wants = wants_OnEager k p b;

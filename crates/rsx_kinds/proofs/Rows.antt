@@ -2,7 +2,7 @@
 use Rattle.std.proofs.Common.{◌≡◌, inr, ℕ, suc, ◌+◌, ◌*◌, ◌<◌, List, [], ◌∷◌, ◌++◌, length, map, refl, ap, sym, ◌∙◌, subst, arith, Option, Some, None, option_map, option_and_then}
 use Rattle.rsx_types.proofs.Lists.{nil_before, nil_behind}
 use Rattle.rsx_sources.specs.Prelude.{Meaning, Stream, Note}
-use Rattle.rsx_kinds.specs.Prelude.{AllUnrecorded, AreBuilt, Expr, HubState, Inputs, IsBuilt, More', Node, StandAt, TreeNode, any_machine, environment, first_fault, first_of, first_wants, fresh_edge, fresh_edges, fresh_wants, in_order, joins_now, leaves, meant, new_joins, new_joins_of, nodes, sum_of}
+use Rattle.rsx_kinds.specs.Prelude.{AllUnrecorded, AreBuilt, Expr, HubState, Inputs, IsBuilt, More', Node, StandAt, TreeNode, any_machine, environment_until_stop, first_fault, first_of, first_wants, fresh_edge, fresh_edges, fresh_wants, in_order, joins_now, leaves, meant, new_joins, new_joins_of, nodes, sum_of}
 use Rattle.rsx_model.proofs.Unfold.{meant_leaves, meant_nodes, nodes_out, or_none}
 use Rattle.rsx_tree.specs.Prelude.{IsBalanced, sent_over, beside_of, comes_in, notes_of, size, edges as edges_in, IsJoined}
 use Rattle.rsx_tree.proofs.Effects.{length_edges}
@@ -50,7 +50,7 @@ built_more {T} m hubs all x xs below beside row all_is first rest j =
     let size_is : suc (size below.inputs) ≡ nodes x = ap suc (sym (length_edges below.inputs) ∙ ap length first.edges) ∙ length_fresh x in
     subst A (sym all_is) (subst R (sym j.row_is) (record {
       values = λ more joins further at leaf begun stand.
-          let w = environment m more joins further in
+          let w = environment_until_stop m more joins further in
           let n_is : at + (meant w x).nodes ≡ at + 1 + size below.inputs = let k = meant_nodes w x in omega arith in
           let l_is : leaf + (meant w x).leaves ≡ leaf + length joins_first = let k = meant_leaves w x in omega arith in
           let here = first.value more joins further at leaf begun (stand_first joins leaf joins_first joins_behind stand) in

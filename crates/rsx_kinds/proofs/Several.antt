@@ -3,9 +3,9 @@ use Rattle.std.proofs.Common.{◌≡◌, inr, ℕ, zero, suc, ◌+◌, ◌*◌, 
 use Rattle.std.specs.Prelude.{IfOk}
 use Rattle.std.proofs.Math.ListN.{replicate}
 use Rattle.rsx_sources.specs.Prelude.{Meaning, Stream, Note, Nothing, Picks, Ended, incoming_of}
-use Rattle.rsx_values.specs.Prelude.{concat, merge, merge_delay, combine_latest, zip}
+use Rattle.rsx_values.specs.Prelude.{concat, merge, merge_delay, latest_until_stop, zip}
 use Rattle.rsx_queued.specs.Values.{first_values}
-use Rattle.rsx_kinds.specs.Prelude.{AreBuilt, Direct, Expr, GivesKind, HubState, Inputs, IsBuilt, IsBuiltOver, IsUnrecorded, IsWithin, MOST_INPUTS, MOST_PREFETCH, Meant, Node, Several, SeveralKind, SeveralNode, StandAt, TreeNode, any_machine, ended_by_record, environment, first_fault, first_of, first_wanted, fresh_beside, fresh_edges, fresh_wants, in_order, inputs_fit, joined, meant, new_joins, new_joins_of, nodes, out_of, prefetch_fits, queued_fault, recorded_first, several_counted, several_ended, several_recorded, several_wanted, sum_of, unless, wants_beside}
+use Rattle.rsx_kinds.specs.Prelude.{AreBuilt, Direct, Expr, GivesKind, HubState, Inputs, IsBuilt, IsBuiltOver, IsUnrecorded, IsWithin, MOST_INPUTS, MOST_PREFETCH, Meant, Node, Several, SeveralKind, SeveralNode, StandAt, TreeNode, any_machine, ended_by_record, environment_until_stop, first_fault, first_of, first_wanted, fresh_beside, fresh_edges, fresh_wants, in_order, inputs_fit, joined, meant, new_joins, new_joins_of, nodes, out_of, prefetch_fits, queued_fault, recorded_first, several_counted, several_ended, several_recorded, several_wanted, sum_of, unless, wants_beside}
 use Rattle.rsx_model.specs.declared.expr.Expr.TheViews.{Concat as ConcatOf, Merge as MergeOf, MergeDelay as MergeDelayOf, Zip as ZipOf, Latest as LatestOf, outs-Concat, outs-Merge, outs-MergeDelay, outs-Zip, outs-Latest}
 use Rattle.rsx_model.specs.declared.check.BadExpr.TheVariants.{Inputs as TooManyInputs, Number}
 use Rattle.rsx_model.proofs.Unfold.{fault_Concat, fault_Merge, fault_MergeDelay, fault_Zip, fault_Latest, nodes_Concat, nodes_Merge, nodes_MergeDelay, nodes_Zip, nodes_Latest, or_none, value_Concat, value_Merge, value_MergeDelay, value_Zip, value_Latest}
@@ -83,7 +83,7 @@ built_over {T} m hubs kind es row n t some w fresh noted goes_on counted wanted 
     let BR : Inputs (TreeNode T) → Type 0 = λ r. TN (node_of (Direct (Several n)) r) in
     subst BN (sym n_is) (subst BR (sym r_is) (record {
       value = λ whole joins further at leaf begun stand.
-          let w_env = environment m whole joins further in
+          let w_env = environment_until_stop m whole joins further in
           let values = in_order (map (meant w_env) es) (at + 1) leaf in
           ap (λ o. out_of any_machine m whole (Direct (Several n)) o (slice_get further at)) (w.values whole joins further (at + 1) leaf begun stand)
           ∙ out_several m whole n kind (length es) fresh some values (λ vs e. there_are (map (meant w_env) es) (at + 1) leaf vs e ∙ length-map es (meant w_env)) (slice_get further at);
@@ -110,7 +110,7 @@ zip_value m p o note = refl
 -- the tree over its inputs is that of an expression whose meaning, joins, edges and wants are made of theirs
 record IsOver {T : Type 0} (m : Meaning T) (hubs : List (HubState T)) (kind : SeveralKind) (es : List (Expr T)) (e : Expr T) : Type 0 where
   value : (whole : List (Stream T)) (joins : List ℕ) (further : List Note) (at leaf : ℕ) →
-      (meant (environment m whole joins further) e).value at leaf ≡ option_and_then (λ k. option_and_then (joined m kind k) (in_order (map (meant (environment m whole joins further)) es) (at + 1) leaf)) (slice_get further at)
+      (meant (environment_until_stop m whole joins further) e).value at leaf ≡ option_and_then (λ k. option_and_then (joined m kind k) (in_order (map (meant (environment_until_stop m whole joins further)) es) (at + 1) leaf)) (slice_get further at)
   joins_are : new_joins hubs e ≡ new_joins_of hubs es
   edges_are : fresh_edges e ≡ fresh_beside (map fresh_edges es)
   wants_are : fresh_wants e ≡ wants_beside (first_wanted kind 0 0) (map fresh_wants es)
@@ -140,7 +140,7 @@ if_built m hubs kind es items whole_of e (Err x) is all o w = tt
 over_concat : {T : Type 0} (m : Meaning T) (hubs : List (HubState T)) (v : Listed T) → IsOver m hubs Concat v.items (ConcatOf v)
 over_concat m hubs v = record {
   value = λ whole joins further at leaf.
-      value_Concat (environment m whole joins further) v at leaf ∙ quiet_value concat (in_order (map (meant (environment m whole joins further)) v.items) (at + 1) leaf) (slice_get further at);
+      value_Concat (environment_until_stop m whole joins further) v at leaf ∙ quiet_value concat (in_order (map (meant (environment_until_stop m whole joins further)) v.items) (at + 1) leaf) (slice_get further at);
   joins_are = rw (leaf_joins_out, outs-Concat) refl;
   edges_are = rw (fresh_edges_out, outs-Concat) refl;
   wants_are = rw (fresh_wants_out, outs-Concat) refl;
@@ -152,7 +152,7 @@ built_concat m hubs e v items r is all w = if_built m hubs Concat v.items items 
 over_merge : {T : Type 0} (m : Meaning T) (hubs : List (HubState T)) (p : ℕ) (v : Listed T) → IsOver m hubs (Merge p) v.items (MergeOf p v)
 over_merge m hubs p v = record {
   value = λ whole joins further at leaf.
-      value_Merge (environment m whole joins further) p v at leaf ∙ picked_value merge (in_order (map (meant (environment m whole joins further)) v.items) (at + 1) leaf) (slice_get further at);
+      value_Merge (environment_until_stop m whole joins further) p v at leaf ∙ picked_value merge (in_order (map (meant (environment_until_stop m whole joins further)) v.items) (at + 1) leaf) (slice_get further at);
   joins_are = rw (leaf_joins_out, outs-Merge) refl;
   edges_are = rw (fresh_edges_out, outs-Merge) refl;
   wants_are = rw (fresh_wants_out, outs-Merge) refl;
@@ -161,7 +161,7 @@ over_merge m hubs p v = record {
 over_merge_delay : {T : Type 0} (m : Meaning T) (hubs : List (HubState T)) (p : ℕ) (v : Listed T) → IsOver m hubs (MergeDelay p) v.items (MergeDelayOf p v)
 over_merge_delay m hubs p v = record {
   value = λ whole joins further at leaf.
-      value_MergeDelay (environment m whole joins further) p v at leaf ∙ picked_value merge_delay (in_order (map (meant (environment m whole joins further)) v.items) (at + 1) leaf) (slice_get further at);
+      value_MergeDelay (environment_until_stop m whole joins further) p v at leaf ∙ picked_value merge_delay (in_order (map (meant (environment_until_stop m whole joins further)) v.items) (at + 1) leaf) (slice_get further at);
   joins_are = rw (leaf_joins_out, outs-MergeDelay) refl;
   edges_are = rw (fresh_edges_out, outs-MergeDelay) refl;
   wants_are = rw (fresh_wants_out, outs-MergeDelay) refl;
@@ -176,7 +176,7 @@ built_merge_delay m hubs e p v items r is all w = if_built m hubs (MergeDelay p)
 over_zip : {T : Type 0} (m : Meaning T) (hubs : List (HubState T)) (p : ℕ) (v : Listed T) → IsOver m hubs (Zip p) v.items (ZipOf p v)
 over_zip m hubs p v = record {
   value = λ whole joins further at leaf.
-      value_Zip (environment m whole joins further) p v at leaf ∙ sym (zip_value m p (in_order (map (meant (environment m whole joins further)) v.items) (at + 1) leaf) (slice_get further at));
+      value_Zip (environment_until_stop m whole joins further) p v at leaf ∙ sym (zip_value m p (in_order (map (meant (environment_until_stop m whole joins further)) v.items) (at + 1) leaf) (slice_get further at));
   joins_are = rw (leaf_joins_out, outs-Zip) refl;
   edges_are = rw (fresh_edges_out, outs-Zip) refl;
   wants_are = rw (fresh_wants_out, outs-Zip) refl;
@@ -188,7 +188,7 @@ built_zip m hubs e p v items r is all w = if_built m hubs (Zip p) v.items items 
 over_latest : {T : Type 0} (m : Meaning T) (hubs : List (HubState T)) (p : ℕ) (v : Listed T) → IsOver m hubs (Latest p) v.items (LatestOf p v)
 over_latest m hubs p v = record {
   value = λ whole joins further at leaf.
-      value_Latest (environment m whole joins further) p v at leaf ∙ picked_value (combine_latest m.row_of) (in_order (map (meant (environment m whole joins further)) v.items) (at + 1) leaf) (slice_get further at);
+      value_Latest (environment_until_stop m whole joins further) p v at leaf ∙ picked_value (latest_until_stop m.row_of) (in_order (map (meant (environment_until_stop m whole joins further)) v.items) (at + 1) leaf) (slice_get further at);
   joins_are = rw (leaf_joins_out, outs-Latest) refl;
   edges_are = rw (fresh_edges_out, outs-Latest) refl;
   wants_are = rw (fresh_wants_out, outs-Latest) refl;

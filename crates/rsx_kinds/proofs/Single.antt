@@ -3,7 +3,7 @@ use Rattle.std.proofs.Common.{◌≡◌, inl, inr, ℕ, Bool, true, false, ◌+�
 use Rattle.std.specs.Prelude.{IfOk}
 use Rattle.std.proofs.lemmas.List.{append-nil}
 use Rattle.rsx_sources.specs.Prelude.{Meaning, Stream, NoMemory, Note, Nothing, Picks, Ended, Incoming, incoming_of, Reading}
-use Rattle.rsx_kinds.specs.Prelude.{AllUnrecorded, AnyNode, Direct, Edge, End, Expr, HubState, Inputs, IsBuilt, IsOverOne, IsUnrecorded, Live, More', Node, StandAt, TreeNode, any_machine, counts_of, environment, first_wants, fresh_edge, fresh_edges, fresh_wants, kind_machine, meant, new_joins}
+use Rattle.rsx_kinds.specs.Prelude.{AllUnrecorded, AnyNode, Direct, Edge, End, Expr, HubState, Inputs, IsBuilt, IsOverOne, IsUnrecorded, Live, More', Node, StandAt, TreeNode, any_machine, counts_of, environment_until_stop, first_wants, fresh_edge, fresh_edges, fresh_wants, kind_machine, meant, new_joins}
 use Rattle.rsx_tree.specs.Prelude.{IsBalanced, Hold, closed_if, out_of, beside_of, closed_row_if, notes_of, edges as edges_in, IsReadAt, comes_out, notes, IsJoined}
 use Rattle.rsx_tree.proofs.Effects.{edges_closed_if}
 use Rattle.rsx_tree.proofs.Readings.{closed_if_reads}
@@ -21,7 +21,7 @@ pub record StandsFor {T : Type 0} (m : Meaning T) (hubs : List (HubState T)) (gi
   pub counted : over ≡ false → kind_machine.counted n (0 ∷ []) 0
   pub wanted : kind_machine.wanted n 0 0 0 ≡ p
   pub value : (whole : List (Stream T)) (joins : List ℕ) (further : List Note) (at leaf : ℕ) →
-      (meant (environment m whole joins further) e).value at leaf ≡ option_and_then (λ k. option_and_then (gives k) ((meant (environment m whole joins further) input).value (at + 1) leaf)) (slice_get further at)
+      (meant (environment_until_stop m whole joins further) e).value at leaf ≡ option_and_then (λ k. option_and_then (gives k) ((meant (environment_until_stop m whole joins further) input).value (at + 1) leaf)) (slice_get further at)
   pub joins : new_joins hubs e ≡ new_joins hubs input
   pub edges : fresh_edges e ≡ closed_if over (fresh_edge ∷ fresh_edges input)
   pub wants : fresh_wants e ≡ p ∷ fresh_wants input

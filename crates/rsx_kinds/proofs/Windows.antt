@@ -3,7 +3,7 @@ use Rattle.std.proofs.Common.{◌≡◌, false, ℕ, ◌+◌, List, ◌∷◌, r
 use Rattle.std.specs.Prelude.{IfOk}
 use Rattle.std.proofs.lemmas.List.{append-nil}
 use Rattle.rsx_sources.specs.Prelude.{Meaning, NoMemory, Stage, quiet as quiet_at}
-use Rattle.rsx_kinds.specs.Prelude.{AnyNode, Expr, HubState, IsBuilt, IsOverOne, IsWindow, Node, TreeNode, environment, fold_out-Expr, fresh_edge, fresh_edges, meant, new_joins}
+use Rattle.rsx_kinds.specs.Prelude.{AnyNode, Expr, HubState, IsBuilt, IsOverOne, IsWindow, Node, TreeNode, environment_until_stop, fold_out-Expr, fresh_edge, fresh_edges, meant, new_joins}
 use Rattle.rsx_values.specs.Window.{window}
 use Rattle.rsx_model.specs.declared.expr.Expr.TheViews.{Window as WindowOf, outs-Window}
 use Rattle.rsx_model.proofs.Unfold.{value_Window}
@@ -30,7 +30,7 @@ stands {T} m hubs size gs b n h =
       counted = λ e. h.counted;
       wanted = window_wants h.node h.counted;
       value = λ whole joins further at leaf.
-          value_Window (environment m whole joins further) size gs b at leaf ∙ quiet_value (window m size gs.items) ((meant (environment m whole joins further) b.value).value (at + 1) leaf) (slice_get further at);
+          value_Window (environment_until_stop m whole joins further) size gs b at leaf ∙ quiet_value (window m size gs.items) ((meant (environment_until_stop m whole joins further) b.value).value (at + 1) leaf) (slice_get further at);
       joins = new_joins_Window hubs size gs b;
       edges = fresh_Window size gs b;
       wants = wants_Window size gs b;

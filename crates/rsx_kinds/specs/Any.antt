@@ -5,7 +5,7 @@ use Rattle.rsx_sources.specs.Prelude.{Note, Nothing, Signal, Meaning, Allocates,
 use Rattle.rsx_sources.specs.declared.machine.Front.{Front}
 use Rattle.rsx_sources.specs.declared.machine.Machine.{Ghosts as Machine}
 use Rattle.rsx_queued.specs.declared.sender.Sender.{Sender}
-use Rattle.rsx_queued.specs.Sender.{is_crossing, sender_comes_out, sender_waiting, sender_shown, sender_takes, sender_picks, sender_rows, sender_rowed, sender_recording, sender_recorded, sender_popping, sender_ended, sender_done, sender_counted, sender_wanted, sender_popped, sender_reads, sender_rooms, sender_pop_allocates, sender_signal_allocates, sender_step_allocates}
+use Rattle.rsx_queued.specs.Sender.{is_crossing, sender_comes_out, sender_waiting, sender_shown, sender_takes, sender_picks, sender_rows, sender_rowed, sender_recording, sender_recorded, sender_popping, sender_ended, sender_done, sender_counted, sender_wanted, sender_accepts, sender_popped, sender_reads, sender_rooms, sender_pop_allocates, sender_signal_allocates, sender_step_allocates}
 use Rattle.rsx_plain.specs.Node.{plain_comes_out, plain_waiting, plain_shown, plain_popped, plain_takes, plain_wanted, plain_ended, plain_allocates, plain_counted}
 use Rattle.rsx_kinds.specs.Several.{several_comes_out, several_waiting, several_shown, several_takes, several_picks, several_rows, several_rowed, several_recording, several_recorded, several_ended, several_done, several_counted, several_wanted, several_popped, several_step_allocates}
 use Rattle.rsx_merging.specs.PublishOn.{publish_comes_out, publish_waiting, publish_shown, publish_popped, publish_takes, publish_wanted, publish_ended, publish_counted}
@@ -269,6 +269,7 @@ kind_machine = record {
   done = any_done;
   counted = any_counted;
   wanted = any_wanted;
+  accepts = λ n a s. true;
   popped = any_popped;
   reads = any_reads;
   rooms = any_rooms;
@@ -299,6 +300,7 @@ any_machine = record {
   done = sender_done kind_machine;
   counted = sender_counted kind_machine;
   wanted = sender_wanted kind_machine;
+  accepts = sender_accepts kind_machine;
   popped = sender_popped kind_machine;
   reads = sender_reads kind_machine;
   rooms = sender_rooms kind_machine;

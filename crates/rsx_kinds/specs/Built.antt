@@ -2,7 +2,7 @@
 use Rattle.std.specs.Prelude.{◌≡◌, ℕ, ◌+◌, ◌<◌, List, [], length, map, option_and_then, slice_get}
 use Rattle.std.proofs.Math.ListN.{replicate}
 use Rattle.rsx_hub.specs.Hub.{HubState}
-use Rattle.rsx_model.specs.Eval.{environment, meant, in_order}
+use Rattle.rsx_model.specs.Eval.{environment_until_stop, meant, in_order}
 use Rattle.rsx_model.specs.declared.expr.Expr.{Expr}
 use Rattle.rsx_sources.specs.Prelude.{Meaning, Stream, Note, Stage}
 use Rattle.rsx_plain.specs.State.{plain_start}
@@ -50,7 +50,7 @@ new_joins_of hubs es = in_a_row (map (new_joins hubs) es)
 -- yet, and whatever node takes the row, what is wanted below it is as the expressions say, and the counts are balanced
 pub record AreBuilt {T : Type 0} (m : Meaning T) (hubs : List (HubState T)) (es : List (Expr T)) (row : Inputs (TreeNode T)) : Type 0 where
   pub values : (whole : List (Stream T)) (joins : List ℕ) (further : List Note) (at leaf : ℕ) → AreBegun hubs whole → StandAt joins leaf (new_joins_of hubs es) →
-      comes_in any_machine m whole further row at ≡ in_order (map (meant (environment m whole joins further)) es) at leaf
+      comes_in any_machine m whole further row at ≡ in_order (map (meant (environment_until_stop m whole joins further)) es) at leaf
   pub reads : IsRowReadAt any_machine (counts_of hubs) row
   pub alone : new_joins_of hubs es ≡ [] → IsRowReadAt any_machine [] row
   pub notes : AllUnrecorded (notes_of any_machine row)
@@ -64,7 +64,7 @@ pub record AreBuilt {T : Type 0} (m : Meaning T) (hubs : List (HubState T)) (es 
 pub record IsBuiltOver {T : Type 0} (m : Meaning T) (hubs : List (HubState T)) (kind : SeveralKind) (es : List (Expr T)) (t : Node (TreeNode T)) : Type 0 where
   pub value : (whole : List (Stream T)) (joins : List ℕ) (further : List Note) (at leaf : ℕ) → AreBegun hubs whole → StandAt joins leaf (new_joins_of hubs es) →
       comes_out any_machine m whole further t at
-      ≡ option_and_then (λ k. option_and_then (joined m kind k) (in_order (map (meant (environment m whole joins further)) es) (at + 1) leaf)) (slice_get further at)
+      ≡ option_and_then (λ k. option_and_then (joined m kind k) (in_order (map (meant (environment_until_stop m whole joins further)) es) (at + 1) leaf)) (slice_get further at)
   pub reads : IsTreeReadAt any_machine (counts_of hubs) t
   pub alone : new_joins_of hubs es ≡ [] → IsTreeReadAt any_machine [] t
   pub notes : AllUnrecorded (notes any_machine t)

@@ -1,5 +1,5 @@
 -- Which edges of a tree that was made have a queue: those that join two regions.
-use Rattle.std.specs.Prelude.{◌≡◌, ℕ, Bool, true, false, List, map, None}
+use Rattle.std.specs.Prelude.{◌≡◌, ℕ, Bool, false, List, map, None}
 use Rattle.rsx_model.specs.declared.expr.Expr.{Expr}
 use Rattle.rsx_model.specs.Region.{region_from, region_of}
 use Rattle.rsx_kinds.specs.Any.{TreeNode}

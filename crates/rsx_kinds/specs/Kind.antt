@@ -2,7 +2,7 @@
 use Rattle.std.specs.Prelude.{◌≡◌, ⊤, ℕ, zero, suc, ◌≤◌, List, [], ◌∷◌, Option, None}
 use Rattle.rsx_sources.specs.Prelude.{Note, Nothing, Picks, Ended, Meaning, Stream, Incoming, quiet}
 use Rattle.rsx_prefetch.specs.declared.TheConstants.{LARGEST}
-use Rattle.rsx_values.specs.Prelude.{concat, merge, merge_delay, combine_latest, zip}
+use Rattle.rsx_values.specs.Prelude.{concat, merge, merge_delay, latest_until_stop, zip}
 use Rattle.rsx_queued.specs.Prelude.{picked, first_values}
 use Rattle.rsx_combining.specs.Zip.{recorded_ending}
 use Rattle.rsx_kinds.specs.declared.kind.SeveralKind.{SeveralKind}
@@ -24,7 +24,7 @@ joined m Concat k vs = quiet k (concat vs)
 joined m (Merge p) k vs = picked k (λ cs. merge cs vs)
 joined m (MergeDelay p) k vs = picked k (λ cs. merge_delay cs vs)
 joined m (Zip p) k vs = recorded_ending k (λ o. zip m.row_of o vs)
-joined m (Latest p) k vs = picked k (λ cs. combine_latest m.row_of cs vs)
+joined m (Latest p) k vs = picked k (λ cs. latest_until_stop m.row_of cs vs)
 
 -- at a node at which nothing came in: the operator of so many of the values that come in
 abbrev pub GivesKind : {T : Type 0} → SeveralNode T → SeveralKind → ℕ → Type 0

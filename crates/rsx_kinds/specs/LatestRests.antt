@@ -1,7 +1,7 @@
 -- Nothing comes out of a combineLatest of inputs from which nothing can be picked, and at which nothing more comes in.
 use Rattle.std.proofs.Common.{◌≡◌, ℕ, ◌<◌, ◌^◌, Bool, true, false, List, [], ◌∷◌, length, slice_get, Option, Some, None, refl, ap, ◌∙◌, arith}
 use Rattle.rsx_sources.specs.Prelude.{Picks, Open, Signal, Meaning, ended_by, AreWithin, Incoming}
-use Rattle.rsx_values.specs.Prelude.{InputLeft, combine, walk}
+use Rattle.rsx_values.specs.Prelude.{InputLeft, combine_until_stop, walk_until_stop}
 use Rattle.rsx_queued.specs.Prelude.{inputs_left, next_signal_at, empty_of, is_empty}
 use Rattle.rsx_queued.proofs.Outputs.{empty_then}
 use Rattle.rsx_combining.specs.Latest.{IsLatestCounted, LatestState, gives_row, latest_comes_out, latest_done, latest_picks, latest_takes, latest_waiting, latest_wanted}
@@ -13,8 +13,8 @@ use Rattle.rsx_tree.specs.Rests.{NothingComes}
 never : (b : Bool) → b ≡ true → b ≡ false → ⊥
 never b x y = cc
 
-combine_empty : {T : Type 0} (row : List T → T) (latest : List (Option T)) (is : List (InputLeft T)) → AreEmpty is → 0 < length is → combine row latest [] is ≡ Some (ended_by Open)
-combine_empty row latest is e lt = ap (walk row latest (length is) []) (nothing_rest is e) ∙ ap (λ k. Some (ended_by k)) (left_open (length is) lt)
+combine_empty : {T : Type 0} (row : List T → T) (latest : List (Option T)) (is : List (InputLeft T)) → AreEmpty is → 0 < length is → combine_until_stop row latest [] is ≡ Some (ended_by Open)
+combine_empty row latest is e lt = ap (walk_until_stop row latest (length is) []) (nothing_rest is e) ∙ ap (λ k. Some (ended_by k)) (left_open (length is) lt)
 
 -- nothing is next at any input, since it could be picked
 pub latest_rests : {T : Type 0} (m : Meaning T) (n : LatestState T) (taken : List ℕ) (asked sent : ℕ) (inc : Incoming T) → IsLatestCounted n taken sent → latest_waiting m n ≡ None → sent < asked → AreWithin taken →

@@ -23,7 +23,7 @@ pub use Rattle.rsx_merging.specs.FlatMap.{GivesFlatMap, IsGoing, flat_comes_out,
 pub use Rattle.rsx_merging.specs.PublishOn.{publish_comes_out, publish_counted, publish_ended, publish_popped, publish_takes, publish_waiting, publish_wanted}
 pub use Rattle.rsx_merging.specs.declared.flat_map_node.FlatMapNode.{FlatMapNode}
 pub use Rattle.rsx_model.specs.Check.{concurrency_fits, first_fault, first_of, inputs_fit, or_else, prefetch_fits, queued_fault, stage_fits, unless, worker_fits}
-pub use Rattle.rsx_model.specs.Eval.{Meant, chosen, ended_by_record, environment, in_order, meant, quiet}
+pub use Rattle.rsx_model.specs.Eval.{Meant, chosen, ended_by_record, environment_until_stop, in_order, meant, quiet}
 pub use Rattle.rsx_model.specs.Region.{region_from, region_of, worker_here}
 pub use Rattle.rsx_model.specs.Shape.{children, leaves, nodes, sum_of}
 pub use Rattle.rsx_model.specs.declared.check.BadExpr.TheVariants.{Number}

@@ -6,7 +6,6 @@ use Rattle.rsx_queued.specs.declared.sender.Sender.TheVariants.{Direct, Crossing
 use Rattle.rsx_kinds.specs.Any.{TreeNode, kind_machine}
 use Rattle.rsx_tree.specs.Prelude.{is_live}
 use Rattle.rsx_tree.specs.declared.edge.EdgeState.{EdgeState}
-use Rattle.rsx_kinds.specs.Crossings.{is_crossing}
 use Rattle.rsx_kinds.specs.Operators.{operator_of}
 use Rattle.rsx_kinds.specs.Queues.{crossing_of, lanes_of, queued_of}
 use Rattle.rsx_rooted.specs.declared.nodes.Nodes.{Ghosts as Nodes}

@@ -1,6 +1,6 @@
 -- What nodes of any kind are after a batch.
 use Rattle.std.specs.Prelude.{◌≡◌, ℕ, if◌then◌else◌}
-use Rattle.rsx_rooted.specs.Went.{leaf_went, plain_went, range_went, sender_went}
+use Rattle.rsx_rooted.specs.Went.{leaf_went, plain_went, range_went}
 use Rattle.rsx_rooted.specs.declared.batch.After.{After}
 use Rattle.rsx_rooted.specs.declared.batch.After.TheVariants.{Plain as PlainAfter, Counted, Picked, Latest as LatestAfter, Gave}
 use Rattle.rsx_rooted.specs.declared.batch.Noted.{Noted}

@@ -49,6 +49,7 @@ impl<T: Drop> Machine for AnyNode<T> {
     ghost use Rattle.rsx_kinds.specs.Any.{any_comes_out, any_waiting, any_shown, any_takes, any_picks, any_rows, any_rowed, any_recording, any_recorded, any_popping, any_ended, any_done, any_counted, any_wanted, any_popped, any_reads, any_rooms, any_pop_allocates, any_signal_allocates, any_step_allocates};
     ghost use Rattle.rsx_kinds.specs.Laws.{any_shows, any_drops, any_ends, any_ends_reading, any_done_drops, any_settles, any_ending_waits, any_hungry, any_popped_alike};
     ghost use Rattle.rsx_kinds.specs.declared.any_node.AnyNode.{AnyNode};
+    ghost use Rattle.std.proofs.lemmas.Bool.{true≢false};
 
     ghost comes_out = { any_comes_out };
 
@@ -77,6 +78,8 @@ impl<T: Drop> Machine for AnyNode<T> {
     ghost counted = { any_counted };
 
     ghost wanted = { any_wanted };
+
+    ghost accepts = { λ n a s. true };
 
     ghost popped = { any_popped };
 
@@ -454,6 +457,11 @@ impl<T: Drop> Machine for AnyNode<T> {
         }
     }
 
+    #[inline(always)]
+    fn accepts_demand(&self, asked: u64, sent: u64) -> bool {
+        true
+    }
+
     fn note(&self, alloc: Global) -> Result<Note, NoMemory> {
         match self {
             AnyNode::Source(_) | AnyNode::Plain(_) | AnyNode::PublishOn(_) | AnyNode::Window(_) =>
@@ -506,4 +514,6 @@ impl<T: Drop> Machine for AnyNode<T> {
     ghost ending_waits = { any_ending_waits };
 
     ghost hungry = { any_hungry };
+
+    ghost asked_enough = { λ n a s e. absurd (true≢false e) };
 }

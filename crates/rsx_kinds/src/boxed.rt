@@ -94,6 +94,8 @@ impl<N: Machine> Machine for Boxed<N> {
 
     ghost wanted = { N.wanted };
 
+    ghost accepts = { N.accepts };
+
     ghost popped = { N.popped };
 
     ghost reads = { N.reads };
@@ -267,6 +269,11 @@ impl<N: Machine> Machine for Boxed<N> {
         self.node.want(input, asked, sent)
     }
 
+    #[inline(always)]
+    fn accepts_demand(&self, asked: u64, sent: u64) -> bool {
+        self.node.accepts_demand(asked, sent)
+    }
+
     fn note(&self, alloc: Global) -> Result<Note, NoMemory> {
         self.node.note(alloc)
     }
@@ -298,6 +305,8 @@ impl<N: Machine> Machine for Boxed<N> {
     ghost ending_waits = { N.ending_waits };
 
     ghost hungry = { N.hungry };
+
+    ghost asked_enough = { N.asked_enough };
 }
 
 impl<N: Batches> Batches for Boxed<N> {

@@ -79,6 +79,7 @@ impl<T: Drop> Machine for SeveralNode<T> {
     ghost use Rattle.rsx_kinds.specs.SeveralLaws.{several_shows, several_popped_alike, several_drops, several_ends, several_done_drops, several_settles, several_ending_waits, several_hungry};
     ghost use Rattle.rsx_kinds.specs.Several.{several_comes_out, several_waiting, several_shown, several_takes, several_picks, several_rows, several_rowed, several_recording, several_recorded, several_ended, several_done, several_counted, several_wanted, several_popped, several_step_allocates};
     ghost use Rattle.rsx_kinds.specs.declared.several_node.SeveralNode.{SeveralNode};
+    ghost use Rattle.std.proofs.lemmas.Bool.{true≢false};
 
     ghost comes_out = { several_comes_out };
 
@@ -107,6 +108,8 @@ impl<T: Drop> Machine for SeveralNode<T> {
     ghost counted = { several_counted };
 
     ghost wanted = { several_wanted };
+
+    ghost accepts = { λ n a s. true };
 
     ghost popped = { several_popped };
 
@@ -353,6 +356,11 @@ impl<T: Drop> Machine for SeveralNode<T> {
         }
     }
 
+    #[inline(always)]
+    fn accepts_demand(&self, asked: u64, sent: u64) -> bool {
+        true
+    }
+
     fn note(&self, alloc: Global) -> Result<Note, NoMemory> {
         match self {
             SeveralNode::Concat(_) => Ok(Note::Nothing),
@@ -399,4 +407,6 @@ impl<T: Drop> Machine for SeveralNode<T> {
     ghost ending_waits = { several_ending_waits };
 
     ghost hungry = { several_hungry };
+
+    ghost asked_enough = { λ n a s e. absurd (true≢false e) };
 }

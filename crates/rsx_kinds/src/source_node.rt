@@ -31,6 +31,7 @@ impl<T: Drop> Machine for SourceNode<T> {
     ghost use Rattle.rsx_kinds.specs.SourceLaws.{source_shows, source_popped_alike, source_ends, source_ends_reading, source_settles, source_hungry};
     ghost use Rattle.rsx_kinds.specs.declared.source_node.SourceNode.{SourceNode};
     ghost use Rattle.std.proofs.Common.{rules};
+    ghost use Rattle.std.proofs.lemmas.Bool.{true≢false};
 
     ghost comes_out = { source_comes_out };
 
@@ -59,6 +60,8 @@ impl<T: Drop> Machine for SourceNode<T> {
     ghost counted = { source_counted };
 
     ghost wanted = { λ n i a s. 0 };
+
+    ghost accepts = { λ n a s. true };
 
     ghost popped = { source_popped };
 
@@ -223,6 +226,11 @@ impl<T: Drop> Machine for SourceNode<T> {
         0
     }
 
+    #[inline(always)]
+    fn accepts_demand(&self, asked: u64, sent: u64) -> bool {
+        true
+    }
+
     fn note(&self, alloc: Global) -> Result<Note, NoMemory> {
         Ok(Note::Nothing)
     }
@@ -261,4 +269,6 @@ impl<T: Drop> Machine for SourceNode<T> {
     ghost ending_waits = { λ m n asked sent e none more. Prim.search rules };
 
     ghost hungry = { source_hungry };
+
+    ghost asked_enough = { λ n a s e. absurd (true≢false e) };
 }

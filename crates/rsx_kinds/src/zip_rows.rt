@@ -16,8 +16,8 @@ use std::alloc::Global;
 pub(crate) trait RowsOut<T: Drop> {
     ghost state: { Self → ZipState T };
 
-    /// Makes rows, at most `most`, as long as an item waits at each input, and puts them into the list, which is empty. It may send an item
-    /// more, whatever is asked of it. It answers no where it made none, as for want of memory. Then nothing has changed.
+    /// Makes rows, at most `most`, as long as an item waits at each input, and puts them into the list, which is empty. It is called where
+    /// as many were asked of the zip. It answers no where it made none, as for want of memory. Then nothing has changed.
     fn rows_out<O: Ops<Item = T>>(
         &mut self,
         alloc: Global,

@@ -3,7 +3,6 @@ use Rattle.std.proofs.Common.{◌≡◌, inl, inr, ℕ, suc, ◌+◌, ◌||◌, 
 use Rattle.rsx_sources.specs.Prelude.{Meaning, Signal, Stream}
 use Rattle.rsx_sources.specs.declared.machine.Machine.{Ghosts as Machine}
 use Rattle.rsx_rooted.specs.declared.nodes.CrossingNodes.{Ghosts as CrossingNodes}
-use Rattle.rsx_tree.specs.Runs.{Leads}
 use Rattle.rsx_link.specs.Ends.{asked_total, cancel_parts, cancels_of, down_steps, received_signals}
 use Rattle.rsx_link.specs.Link.{is_positive}
 use Rattle.rsx_link.specs.Parts.{IsWhole}
@@ -11,7 +10,7 @@ use Rattle.rsx_link.specs.Steps.{is_refused}
 use Rattle.rsx_link.specs.declared.link.Link.{Link}
 use Rattle.rsx_region.specs.Pieces.{StandsSince, none_taken}
 use Rattle.rsx_region.specs.Regions.{ArePiecesOf}
-use Rattle.rsx_region.specs.Trees.{AreCutFrom, EdgeName, HaveGoneSince, IsCutThere, IsOpen, LastCannotJoin, Stage, names_of, stage_of}
+use Rattle.rsx_region.specs.Trees.{AreCutFrom, HaveGoneSince, IsOpen, LastCannotJoin, Stage, names_of, stage_of}
 use Rattle.rsx_region.specs.declared.piece.Piece.{Piece}
 use Rattle.rsx_region.specs.declared.trees.CutTrees.{CutTrees}
 use Rattle.rsx_region.proofs.Stages.{since_from}

@@ -136,6 +136,7 @@ impl<T: Drop> Machine for ConcatNode<T> {
     ghost use Rattle.rsx_merging.specs.ConcatLaws.{concat_drops, concat_ends, concat_done_drops, concat_settles, concat_ending_waits, concat_hungry};
     ghost use Rattle.rsx_merging.specs.Concat.{concat_comes_out, concat_waiting, concat_shown, concat_takes, concat_ended, concat_done, concat_wanted, concat_popped, IsInTurn};
     ghost use Rattle.rsx_merging.specs.declared.concat_node.ConcatNode.{ConcatNode};
+    ghost use Rattle.std.proofs.lemmas.Bool.{true≢false};
 
     ghost comes_out = { concat_comes_out };
 
@@ -164,6 +165,8 @@ impl<T: Drop> Machine for ConcatNode<T> {
     ghost counted = { IsInTurn };
 
     ghost wanted = { concat_wanted };
+
+    ghost accepts = { λ n a s. true };
 
     ghost popped = { concat_popped };
 
@@ -329,6 +332,11 @@ impl<T: Drop> Machine for ConcatNode<T> {
         0
     }
 
+    #[inline(always)]
+    fn accepts_demand(&self, asked: u64, sent: u64) -> bool {
+        true
+    }
+
     fn note(&self, alloc: Global) -> Result<Note, NoMemory> {
         Ok(Note::Nothing)
     }
@@ -378,4 +386,6 @@ impl<T: Drop> Machine for ConcatNode<T> {
     ghost ending_waits = { concat_ending_waits };
 
     ghost hungry = { concat_hungry };
+
+    ghost asked_enough = { λ n a s e. absurd (true≢false e) };
 }

@@ -178,6 +178,7 @@ impl<T: Drop> Machine for FlatMapNode<T> {
     ghost use Rattle.rsx_merging.specs.FlatMap.{flat_comes_out, flat_waiting, flat_shown, flat_takes, flat_picks, flat_recording, flat_recorded, flat_ended, flat_done, flat_wanted, flat_popped, IsGoing};
     ghost use Rattle.rsx_merging.specs.FlatMapLaws.{flat_drops, flat_ends, flat_done_drops, flat_settles, flat_ending_waits, flat_hungry};
     ghost use Rattle.rsx_merging.specs.declared.flat_map_node.FlatMapNode.{FlatMapNode};
+    ghost use Rattle.std.proofs.lemmas.Bool.{true≢false};
 
     ghost comes_out = { flat_comes_out };
 
@@ -206,6 +207,8 @@ impl<T: Drop> Machine for FlatMapNode<T> {
     ghost counted = { IsGoing };
 
     ghost wanted = { flat_wanted };
+
+    ghost accepts = { λ n a s. true };
 
     ghost popped = { flat_popped };
 
@@ -451,6 +454,11 @@ impl<T: Drop> Machine for FlatMapNode<T> {
         )
     }
 
+    #[inline(always)]
+    fn accepts_demand(&self, asked: u64, sent: u64) -> bool {
+        true
+    }
+
     fn note(&self, alloc: Global) -> Result<Note, NoMemory> {
         let choices = self.choices.choices(alloc)?;
         Ok(Note::Picks(choices))
@@ -490,4 +498,6 @@ impl<T: Drop> Machine for FlatMapNode<T> {
     ghost ending_waits = { flat_ending_waits };
 
     ghost hungry = { flat_hungry };
+
+    ghost asked_enough = { λ n a s e. absurd (true≢false e) };
 }

@@ -138,6 +138,7 @@ impl<T: Drop> Machine for MergeNode<T> {
     ghost use Rattle.rsx_merging.specs.MergeLaws.{merge_drops, merge_ends, merge_done_drops, merge_settles, merge_ending_waits, merge_hungry};
     ghost use Rattle.rsx_merging.specs.Merge.{merge_comes_out, merge_waiting, merge_shown, merge_takes, merge_picks, merge_recording, merge_recorded, merge_ended, merge_done, merge_counted, merge_wanted, merge_popped};
     ghost use Rattle.rsx_merging.specs.declared.merge_node.MergeNode.{MergeNode};
+    ghost use Rattle.std.proofs.lemmas.Bool.{true≢false};
 
     ghost comes_out = { merge_comes_out };
 
@@ -166,6 +167,8 @@ impl<T: Drop> Machine for MergeNode<T> {
     ghost counted = { merge_counted };
 
     ghost wanted = { merge_wanted };
+
+    ghost accepts = { λ n a s. true };
 
     ghost popped = { merge_popped };
 
@@ -377,6 +380,11 @@ impl<T: Drop> Machine for MergeNode<T> {
         credits_at(self.inputs.as_slice(), input)
     }
 
+    #[inline(always)]
+    fn accepts_demand(&self, asked: u64, sent: u64) -> bool {
+        true
+    }
+
     fn note(&self, alloc: Global) -> Result<Note, NoMemory> {
         let choices = self.choices.choices(alloc)?;
         Ok(Note::Picks(choices))
@@ -417,4 +425,6 @@ impl<T: Drop> Machine for MergeNode<T> {
     ghost ending_waits = { merge_ending_waits };
 
     ghost hungry = { merge_hungry };
+
+    ghost asked_enough = { λ n a s e. absurd (true≢false e) };
 }

@@ -84,6 +84,7 @@ impl<T: Drop> Machine for PublishOnNode<T> {
     ghost use Rattle.rsx_queued.specs.Input.{next_signal};
     ghost use Rattle.rsx_merging.specs.PublishOn.{item_of, publish_comes_out, publish_waiting, publish_shown, publish_takes, publish_ended, publish_counted, publish_wanted, publish_popped};
     ghost use Rattle.rsx_merging.specs.declared.publish_on_node.PublishOnNode.{PublishOnNode};
+    ghost use Rattle.std.proofs.lemmas.Bool.{true≢false};
 
     ghost comes_out = { publish_comes_out };
 
@@ -112,6 +113,8 @@ impl<T: Drop> Machine for PublishOnNode<T> {
     ghost counted = { publish_counted };
 
     ghost wanted = { publish_wanted };
+
+    ghost accepts = { λ n a s. true };
 
     ghost popped = { publish_popped };
 
@@ -287,6 +290,11 @@ impl<T: Drop> Machine for PublishOnNode<T> {
         0
     }
 
+    #[inline(always)]
+    fn accepts_demand(&self, asked: u64, sent: u64) -> bool {
+        true
+    }
+
     fn note(&self, alloc: Global) -> Result<Note, NoMemory> {
         Ok(Note::Nothing)
     }
@@ -328,4 +336,6 @@ impl<T: Drop> Machine for PublishOnNode<T> {
     ghost ending_waits = { publish_ending_waits };
 
     ghost hungry = { publish_hungry };
+
+    ghost asked_enough = { λ n a s e. absurd (true≢false e) };
 }

@@ -1,9 +1,10 @@
 -- How operators over several inputs end: never by the failure of a bad request, where no input ends so.
-use Rattle.std.proofs.Common.{◌≢◌, ℕ, zero, suc, ◌+◌, ◌-◌, Bool, true, false, nat_eq, if◌then◌else◌, List, [], ◌∷◌, ◌++◌, map, Option, Some, None, option_map, option_and_then, slice_get, slice_set}
-use Rattle.rsx_values.specs.Prelude.{NonPositiveRequest, Ending, Open, Done, Failed, Signal, Next, Complete, Error, Stream, ending_signals, item_then, concat, unless_open, merge, merged, taken_ending, main_input, merged_lanes, merged_lanes_delay, InputLeft, Taken, numbered, is_failure, left_after, next_here, next_of, up_to_failure, rest_of, no_more, chosen_before, pick, all_latest, row_first, stops, behind_first, unless_chosen, walk, none_yet, combine_latest, items_of, shortest, ends_after, first_ending, ending_after, zip_ending, zip_rows, zip}
+use Rattle.std.proofs.Common.{◌≡◌, ◌≢◌, ℕ, zero, suc, ◌+◌, ◌-◌, Bool, true, false, nat_eq, if◌then◌else◌, List, [], ◌∷◌, ◌++◌, map, Option, Some, None, option_map, option_and_then, slice_get, slice_set, refl, subst}
+use Rattle.rsx_values.specs.Prelude.{NonPositiveRequest, Ending, Open, Done, Failed, Signal, Next, Complete, Error, Stream, ended_by, ending_signals, item_then, concat, unless_open, merge, merged, taken_ending, main_input, merged_lanes, merged_lanes_delay, InputLeft, Taken, numbered, is_failure, left_after, next_here, next_of, up_to_failure, rest_of, no_more, chosen_before, pick, all_latest, row_first, stops, walk, none_yet, combine_latest, latest_by, latest_until_stop, items_of, shortest, ends_after, first_ending, ending_after, zip_ending, zip_rows, zip}
 use Rattle.rsx_types.specs.declared.signal.Cause.{Cause}
 use Rattle.rsx_values.specs.Delayed.{all_of, delayed_ending, ending_of, first_cause, goes_on, merge_delay, merged_delayed, pick_all, rest_of_all}
 use Rattle.rsx_values.specs.Eager.{eager, eager_of, failure_here}
+use Rattle.rsx_values.proofs.UntilStop.{latest_same}
 use Rattle.rsx_model.specs.Eval.{Meant, in_order}
 use Rattle.rsx_model.proofs.Unfold.{Each}
 
@@ -243,34 +244,43 @@ eager_values_fine cs (Some v) h = eager_fine cs v.items v.ending h
 
 -- ---- combineLatest
 
-row_fine : {T : Type 0} (row : List T → T) (xs : Option (List T)) (o : Option (Stream T)) → AllFine o → AllFine (row_first row xs o)
-row_fine row None o h = h
-row_fine row (Some xs) None h = tt
-row_fine row (Some xs) (Some v) h = h
+rows_then_fine : {T : Type 0} (row : List T → T) (xs : Option (List T)) (v : Stream T) → Fine v.ending → Fine (row_first row xs v).ending
+rows_then_fine row None v h = h
+rows_then_fine row (Some xs) v h = h
 
-last_fine : (T : Type 0) (cs : List ℕ) → AllFine (unless_chosen {T = T} cs)
-last_fine T [] = λ p. cc
-last_fine T (c ∷ cs) = tt
+done_fine : (T : Type 0) → Fine (ended_by {T = T} Done).ending
+done_fine T = λ p. cc
 
-stopped_fine : {T : Type 0} (b : Bool) (o p : Option (Stream T)) → AllFine o → AllFine p → AllFine (if b then o else p)
-stopped_fine true o p h k = h
-stopped_fine false o p h k = k
+stop_fine : {T : Type 0} (b : Bool) (u v : Stream T) → Fine u.ending → Fine v.ending → Fine (if b then u else v).ending
+stop_fine true u v h k = h
+stop_fine false u v h k = k
 
-walk_fine : {T : Type 0} (row : List T → T) (latest : List (Option T)) (left : ℕ) (cs : List ℕ) (ts : List (Taken T)) → FineTaken ts → AllFine (walk row latest left cs ts)
-walk_fine row latest left cs [] h = whole_fine (nat_eq left 0)
-walk_fine row latest left cs ((n, Next x) ∷ ts) h =
-    row_fine row (all_latest (slice_set latest n (Some x))) (walk row (slice_set latest n (Some x)) left (behind_first cs) ts) (walk_fine row (slice_set latest n (Some x)) left (behind_first cs) ts h.1)
-walk_fine {T} row latest left cs ((n, Complete) ∷ ts) h =
-    stopped_fine (stops latest n left) (unless_chosen (behind_first cs)) (walk row latest (left - 1) (behind_first cs) ts) (last_fine T (behind_first cs)) (walk_fine row latest (left - 1) (behind_first cs) ts h.1)
-walk_fine row latest left cs ((n, Error c) ∷ ts) h = h.0
+walk_fine : {T : Type 0} (row : List T → T) (latest : List (Option T)) (left : ℕ) (ts : List (Taken T)) → FineTaken ts → Fine (walk row latest left ts).ending
+walk_fine row latest left [] h = whole_fine (nat_eq left 0)
+walk_fine row latest left ((n, Next x) ∷ ts) h =
+    rows_then_fine row (all_latest (slice_set latest n (Some x))) (walk row (slice_set latest n (Some x)) left ts) (walk_fine row (slice_set latest n (Some x)) left ts h.1)
+walk_fine {T} row latest left ((n, Complete) ∷ ts) h = stop_fine (stops latest n left) (ended_by Done) (walk row latest (left - 1) ts) (done_fine T) (walk_fine row latest (left - 1) ts h.1)
+walk_fine row latest left ((n, Error c) ∷ ts) h = h.0
 
-walked_fine : {T : Type 0} (row : List T → T) (latest : List (Option T)) (left : ℕ) (cs : List ℕ) (o : Option (List (Taken T))) → FinePick o → AllFine (option_and_then (walk row latest left cs) o)
-walked_fine row latest left cs None h = tt
-walked_fine row latest left cs (Some ts) h = walk_fine row latest left cs ts h
+walked_fine : {T : Type 0} (row : List T → T) (latest : List (Option T)) (left : ℕ) (o : Option (List (Taken T))) → FinePick o → AllFine (option_map (walk row latest left) o)
+walked_fine row latest left None h = tt
+walked_fine row latest left (Some ts) h = walk_fine row latest left ts h
 
-pub latest_values_fine : {T : Type 0} (row : List T → T) (cs : List ℕ) (o : Option (List (Stream T))) → FineValues o → AllFine (option_and_then (combine_latest row cs) o)
-latest_values_fine row cs None h = tt
-latest_values_fine row cs (Some vs) h = walked_fine row (none_yet vs) _ cs (pick cs (numbered 0 vs)) (pick_fine cs (numbered 0 vs) (numbered_fine 0 vs h))
+combined_fine : {T : Type 0} (row : List T → T) (cs : List ℕ) (vs : List (Stream T)) → FineValues (Some vs) → AllFine (combine_latest row cs vs)
+combined_fine row cs vs h = walked_fine row (none_yet vs) _ (pick cs (numbered 0 vs)) (pick_fine cs (numbered 0 vs) (numbered_fine 0 vs h))
+
+-- with nothing chosen behind the stop it is the same value or none
+until_stop_fine : {T : Type 0} (o p : Option (Stream T)) → ((v : Stream T) → o ≡ Some v → p ≡ Some v) → AllFine p → AllFine o
+until_stop_fine None p same h = tt
+until_stop_fine (Some v) p same h = subst AllFine (same v refl) h
+
+by_fine : {T : Type 0} (until_stop : Bool) (row : List T → T) (cs : List ℕ) (vs : List (Stream T)) → FineValues (Some vs) → AllFine (latest_by until_stop row cs vs)
+by_fine true row cs vs h = until_stop_fine (latest_until_stop row cs vs) (combine_latest row cs vs) (latest_same row cs vs) (combined_fine row cs vs h)
+by_fine false row cs vs h = combined_fine row cs vs h
+
+pub latest_values_fine : {T : Type 0} (until_stop : Bool) (row : List T → T) (cs : List ℕ) (o : Option (List (Stream T))) → FineValues o → AllFine (option_and_then (latest_by until_stop row cs) o)
+latest_values_fine until_stop row cs None h = tt
+latest_values_fine until_stop row cs (Some vs) h = by_fine until_stop row cs vs h
 
 -- ---- zip
 

@@ -8,7 +8,7 @@ use Rattle.std.proofs.lemmas.List.Elements.{All-get_or, All-head, All-tail}
 use Rattle.std.proofs.lemmas.Option.{slice_get_cases}
 use Rattle.std.proofs.lemmas.List.Folds.{list_any-append}
 use Rattle.std.proofs.lemmas.Bool.{eqb-true}
-use Rattle.rsx_values.specs.Prelude.{Note, Nothing, Picks, Ended, Function, Ending, Open, Done, Failed, Stage, Map, Filter, Take, Scan, Buffer, Distinct, Meaning, mapped_items, filtered_items, taken_items, accumulated_then, scanned_items, last_list, buffered_items, new_key_then, distinct_items, plain, chained, listed, range_items, Stream, ended_by, item_then, answer_then, kept_then, cut_by, concat, merge, merge_delay, eager_of, list_then, expanded_items, flat_lane, flat_map, flat_map_delay, placed, see, keyed_then, keyed_items, lane_ending, of_key, group_lane, group_lanes, first_seen, group_by, last_window, windows, windows_and_main, window, combine_latest, zip}
+use Rattle.rsx_values.specs.Prelude.{Note, Nothing, Picks, Ended, Function, Ending, Open, Done, Failed, Stage, Map, Filter, Take, Scan, Buffer, Distinct, Meaning, mapped_items, filtered_items, taken_items, accumulated_then, scanned_items, last_list, buffered_items, new_key_then, distinct_items, plain, chained, listed, range_items, Stream, ended_by, item_then, answer_then, kept_then, cut_by, concat, merge, merge_delay, eager_of, list_then, expanded_items, flat_lane, flat_map, flat_map_delay, placed, see, keyed_then, keyed_items, lane_ending, of_key, group_lane, group_lanes, first_seen, group_by, last_window, windows, windows_and_main, window, latest_by, zip}
 use Rattle.rsx_model.specs.declared.expr.Expr.{Expr}
 use Rattle.rsx_model.specs.declared.expr.Expr.TheOpen.{Expr-F}
 use Rattle.rsx_model.specs.declared.expr.Expr.TheOpen as layer
@@ -408,7 +408,7 @@ node_fine w fine (layer.Zip p v) kids at leaf =
     record_fine (slice_get w.notes at) (λ i. option_and_then (zip w.meaning.row_of i) values) (λ i. zip_values_fine w.meaning.row_of i values (in_order_fine v.items kids (at + 1) leaf))
 node_fine w fine (layer.Latest p v) kids at leaf =
     let values = in_order v.items (at + 1) leaf in
-    chosen_fine (slice_get w.notes at) (λ cs. option_and_then (combine_latest w.meaning.row_of cs) values) (λ cs. latest_values_fine w.meaning.row_of cs values (in_order_fine v.items kids (at + 1) leaf))
+    chosen_fine (slice_get w.notes at) (λ cs. option_and_then (latest_by w.until_stop w.meaning.row_of cs) values) (λ cs. latest_values_fine w.until_stop w.meaning.row_of cs values (in_order_fine v.items kids (at + 1) leaf))
 
 -- what holds of what each child means holds of the list of the meanings
 each_meant : {T : Type 0} (w : Environment T) (es : List (Expr T)) → Each (λ e. FineMeant (meant w e)) es → Each FineMeant (map (meant w) es)

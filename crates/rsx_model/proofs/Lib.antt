@@ -6,4 +6,5 @@ pub mod Noted
 pub mod Overtaking
 pub mod Steps
 pub mod Unfold
+pub mod UntilStop
 pub mod Values

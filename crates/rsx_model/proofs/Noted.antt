@@ -3,7 +3,7 @@
 use Rattle.std.proofs.Common.{◌≡◌, ◌∙◌, ℕ, suc, ◌+◌, Bool, true, if◌then◌else◌, List, [], ◌∷◌, length, map, drop, Option, Some, None, option_map, option_and_then, slice_get, refl, sym, ap, arith}
 use Rattle.std.proofs.lemmas.Option.{slice_get_within, get_or_from_slice_get}
 use Rattle.std.proofs.Math.Seq.{drop-cons, drop-length}
-use Rattle.rsx_values.specs.Prelude.{merge, merge_delay, eager_of, flat_map, flat_map_delay, group_by, combine_latest, zip, Note, Nothing, Picks, Ended, Stream}
+use Rattle.rsx_values.specs.Prelude.{merge, merge_delay, eager_of, flat_map, flat_map_delay, group_by, latest_by, zip, Note, Nothing, Picks, Ended, Stream}
 use Rattle.rsx_model.specs.declared.expr.Expr.{Expr}
 use Rattle.rsx_model.specs.declared.expr.Expr.TheOpen.{Expr-F}
 use Rattle.rsx_model.specs.declared.expr.Expr.TheOpen as layer
@@ -114,7 +114,7 @@ node_shown w (layer.On k p b) at leaf s h =
 node_shown w (layer.OnEager k p b) at leaf s h =
     let q = of_chosen (slice_get w.notes at) eager_of (b.value.value (at + 1) leaf) s h in
     (q.0, q.1, q.2, (q.3.0 ∷ [], one_value (b.value.value (at + 1) leaf) q.3.0 q.3.1))
-node_shown w (layer.Latest p v) at leaf s h = of_chosen (slice_get w.notes at) (combine_latest w.meaning.row_of) (in_order v.items (at + 1) leaf) s h
+node_shown w (layer.Latest p v) at leaf s h = of_chosen (slice_get w.notes at) (latest_by w.until_stop w.meaning.row_of) (in_order v.items (at + 1) leaf) s h
 
 -- the notes of a subtree that has a value, and what stands behind them
 abbrev Noted : {T : Type 0} → Environment T → Expr T → Type 0

@@ -2,7 +2,7 @@
 use Rattle.std.proofs.Common.{◌≡◌, ℕ, ℤ, ◌+◌, ◌<◌, ◌≤◌, List, [], ◌∷◌, length, get_or, map, nat_le, nat_lt, Option, Some, None, option_map, option_and_then, slice_get, Vec, Global, Box, refl, sym, ap, subst, ◌∙◌, arith}
 use Rattle.std.proofs.lemmas.List.{length-map}
 use Rattle.std.proofs.lemmas.Option.{slice_get-get_or}
-use Rattle.rsx_values.specs.Prelude.{plain, listed, range_items, Stream, Stage, MOST_ITEMS, concat, merge, merge_delay, eager_of, flat_map, flat_map_delay, group_by, window, combine_latest, zip, HubId}
+use Rattle.rsx_values.specs.Prelude.{plain, listed, range_items, Stream, Stage, MOST_ITEMS, concat, merge, merge_delay, eager_of, flat_map, flat_map_delay, group_by, window, latest_by, zip, HubId}
 use Rattle.rsx_model.specs.declared.check.TheConstants.{MOST_DEPTH, MOST_NODES}
 use Rattle.rsx_model.specs.declared.check.BadExpr.{BadExpr}
 use Rattle.rsx_model.specs.declared.check.BadExpr.TheVariants.{Depth, Nodes, Inputs, Number, Hub as NoSuchHub, Length}
@@ -207,7 +207,7 @@ value_MergeDelay w p v at leaf = rw (value_out, outs-MergeDelay) refl
 pub value_Zip : {T : Type 0} (w : Environment T) (p : ℕ) (v : Several T) (at leaf : ℕ) → (meant w (Zip p v)).value at leaf ≡ ended_by_record (slice_get w.notes at) (λ i. option_and_then (zip w.meaning.row_of i) (in_order (map (meant w) v.items) (at + 1) leaf))
 value_Zip w p v at leaf = rw (value_out, outs-Zip) refl
 
-pub value_Latest : {T : Type 0} (w : Environment T) (p : ℕ) (v : Several T) (at leaf : ℕ) → (meant w (Latest p v)).value at leaf ≡ chosen (slice_get w.notes at) (λ cs. option_and_then (combine_latest w.meaning.row_of cs) (in_order (map (meant w) v.items) (at + 1) leaf))
+pub value_Latest : {T : Type 0} (w : Environment T) (p : ℕ) (v : Several T) (at leaf : ℕ) → (meant w (Latest p v)).value at leaf ≡ chosen (slice_get w.notes at) (λ cs. option_and_then (latest_by w.until_stop w.meaning.row_of cs) (in_order (map (meant w) v.items) (at + 1) leaf))
 value_Latest w p v at leaf = rw (value_out, outs-Latest) refl
 
 pub value_Group : {T : Type 0} (w : Environment T) (f : ℕ) (gs : Stages T) (b : Below T) (at leaf : ℕ) → (meant w (Group f gs b)).value at leaf ≡ chosen (slice_get w.notes at) (λ cs. option_and_then (group_by w.meaning f gs.items cs) ((meant w b.value).value (at + 1) leaf))

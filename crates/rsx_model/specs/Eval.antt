@@ -1,24 +1,30 @@
 -- The value of an expression, from scratch.
-use Rattle.std.specs.Prelude.{ℕ, ◌+◌, List, [], ◌∷◌, map, drop, Option, Some, None, option_map, option_and_then, slice_get}
+use Rattle.std.specs.Prelude.{ℕ, ◌+◌, Bool, true, false, List, [], ◌∷◌, map, drop, Option, Some, None, option_map, option_and_then, slice_get}
 pub use Rattle.rsx_types.specs.Stream.{Stream}
 pub use Rattle.rsx_types.specs.Meaning.{Meaning}
 pub use Rattle.rsx_types.specs.Plain.{plain, listed, range_items}
-use Rattle.rsx_values.specs.Prelude.{concat, merge, merge_delay, eager_of, flat_map, flat_map_delay, group_by, window, combine_latest, zip, Note, Nothing, Picks, Ended}
+use Rattle.rsx_values.specs.Prelude.{concat, merge, merge_delay, eager_of, flat_map, flat_map_delay, group_by, window, latest_by, zip, Note, Nothing, Picks, Ended}
 use Rattle.rsx_model.specs.declared.expr.Expr.{Expr}
 use Rattle.rsx_model.specs.declared.expr.Expr.TheOpen.{Expr-F, Items, Range, Hub, Plain, Concat, Merge, MergeDelay, Zip, Latest, Group, Window, Flat, FlatDelay, On, OnEager}
 use Rattle.rsx_model.specs.declared.expr.Expr.TheFolds.{fold-Expr}
 use Rattle.rsx_model.specs.Shape.{children, sum_of, leaf_here}
 
--- all that the value of an expression depends on: the functions, the hubs' values, and what was recorded
+-- all that the value of an expression depends on: the functions, the hubs' values, and what was recorded; and whether a choice
+-- behind the point where the rows of a combineLatest stop makes the value none
 pub record Environment (T : Type 0) : Type 0 where
   pub meaning : Meaning T
   pub hubs : List (Stream T)
   pub joins : List ℕ
   pub notes : List Note
+  pub until_stop : Bool
 
--- an environment of these
+-- an environment of these; behind the stop of a combineLatest a choice has only to find a signal
 abbrev pub environment : {T : Type 0} → Meaning T → List (Stream T) → List ℕ → List Note → Environment T
-environment m hubs joins notes = record { meaning = m; hubs = hubs; joins = joins; notes = notes }
+environment m hubs joins notes = record { meaning = m; hubs = hubs; joins = joins; notes = notes; until_stop = false }
+
+-- the same with nothing chosen there, as nodes choose. Where an expression has a value in it, that is its value in the other too.
+abbrev pub environment_until_stop : {T : Type 0} → Meaning T → List (Stream T) → List ℕ → List Note → Environment T
+environment_until_stop m hubs joins notes = record { meaning = m; hubs = hubs; joins = joins; notes = notes; until_stop = true }
 
 -- a subtree: its size, and its value where its root has the number `at` and its first hub leaf the number `leaf`
 pub record Meant (T : Type 0) : Type 0 where
@@ -69,14 +75,10 @@ node_value w (Hub h) at leaf = quiet (slice_get w.notes at) (joined_value w h.0 
 node_value w (Plain g b) at leaf =
     quiet (slice_get w.notes at) (option_map (plain w.meaning g) (b.value.value (at + 1) leaf))
 node_value w (Concat v) at leaf = quiet (slice_get w.notes at) (option_map concat (in_order v.items (at + 1) leaf))
-node_value w (Merge p v) at leaf =
-    chosen (slice_get w.notes at) (λ cs. option_and_then (merge cs) (in_order v.items (at + 1) leaf))
-node_value w (MergeDelay p v) at leaf =
-    chosen (slice_get w.notes at) (λ cs. option_and_then (merge_delay cs) (in_order v.items (at + 1) leaf))
-node_value w (Zip p v) at leaf =
-    ended_by_record (slice_get w.notes at) (λ i. option_and_then (zip w.meaning.row_of i) (in_order v.items (at + 1) leaf))
-node_value w (Latest p v) at leaf =
-    chosen (slice_get w.notes at) (λ cs. option_and_then (combine_latest w.meaning.row_of cs) (in_order v.items (at + 1) leaf))
+node_value w (Merge p v) at leaf = chosen (slice_get w.notes at) (λ cs. option_and_then (merge cs) (in_order v.items (at + 1) leaf))
+node_value w (MergeDelay p v) at leaf = chosen (slice_get w.notes at) (λ cs. option_and_then (merge_delay cs) (in_order v.items (at + 1) leaf))
+node_value w (Zip p v) at leaf = ended_by_record (slice_get w.notes at) (λ i. option_and_then (zip w.meaning.row_of i) (in_order v.items (at + 1) leaf))
+node_value w (Latest p v) at leaf = chosen (slice_get w.notes at) (λ cs. option_and_then (latest_by w.until_stop w.meaning.row_of cs) (in_order v.items (at + 1) leaf))
 node_value w (Group f gs b) at leaf =
     chosen (slice_get w.notes at) (λ cs. option_and_then (group_by w.meaning f gs.items cs) (b.value.value (at + 1) leaf))
 node_value w (Window n gs b) at leaf =

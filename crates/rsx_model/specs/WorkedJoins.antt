@@ -5,6 +5,7 @@ use Rattle.rsx_types.specs.declared.signal.Ending.{Ending}
 use Rattle.rsx_types.specs.declared.signal.Ending.TheVariants.{Open, Done, Failed}
 use Rattle.rsx_types.specs.Stream.{Stream}
 use Rattle.rsx_values.specs.Latest.{combine_latest}
+use Rattle.rsx_values.specs.UntilStop.{latest_until_stop}
 use Rattle.rsx_values.specs.Zip.{zip}
 
 abbrev pub joined : List (List ℕ) → List ℕ
@@ -56,12 +57,19 @@ abbrev pub CombinesBoth : Type 0
 CombinesBoth =
     combine_latest joined [] (stream (one 1 ∷ []) Done ∷ stream (one 2 ∷ []) Done ∷ []) ≡ Some (stream (two 1 2 ∷ []) Done)
 
--- one input completes without any item, and that ends it, whatever the other has; nothing can be chosen behind that
+-- one input completes without any item, and that ends it, whatever the other has; a choice behind that has only to find a signal
 abbrev pub CombinesUpTo : Type 0
 CombinesUpTo =
     (combine_latest joined [] (stream (one 1 ∷ []) Open ∷ stream [] Done ∷ []) ≡ Some (stream [] Done))
     × (combine_latest joined (1 ∷ []) (stream (one 1 ∷ []) Open ∷ stream [] Done ∷ []) ≡ Some (stream [] Done))
-    × (combine_latest joined (1 ∷ 0 ∷ []) (stream (one 1 ∷ []) Open ∷ stream [] Done ∷ []) ≡ None)
+    × (combine_latest joined (1 ∷ 0 ∷ []) (stream (one 1 ∷ []) Open ∷ stream [] Done ∷ []) ≡ Some (stream [] Done))
+    × (combine_latest joined (1 ∷ 0 ∷ 0 ∷ []) (stream (one 1 ∷ []) Open ∷ stream [] Done ∷ []) ≡ None)
+
+-- with nothing chosen behind it, as a node chooses, that choice makes the value none, and else it is the same
+abbrev pub CombinesUntilStop : Type 0
+CombinesUntilStop =
+    (latest_until_stop joined (1 ∷ []) (stream (one 1 ∷ []) Open ∷ stream [] Done ∷ []) ≡ Some (stream [] Done))
+    × (latest_until_stop joined (1 ∷ 0 ∷ []) (stream (one 1 ∷ []) Open ∷ stream [] Done ∷ []) ≡ None)
 
 -- the choices say which latest items meet
 abbrev pub CombinesChosen : Type 0

@@ -1,7 +1,7 @@
 //! Worked cases of the definitions. Each is the contract of a function that does nothing.
 
 ghost use Rattle.rsx_model.specs.WorkedEager.{FindsNoFailure, FindsNoItem, NoOtherChoice, NothingBehind, Overtakes, OvertakesAll, TakesAll, TakesEach};
-ghost use Rattle.rsx_model.specs.WorkedJoins.{CombinesBoth, CombinesUpTo, CombinesChosen, ZipsShorter, ZipsFailure, ZipsNoOther, ZipsFirstEnding, ZipsOpen};
+ghost use Rattle.rsx_model.specs.WorkedJoins.{CombinesBoth, CombinesUpTo, CombinesUntilStop, CombinesChosen, ZipsShorter, ZipsFailure, ZipsNoOther, ZipsFirstEnding, ZipsOpen};
 
 /// Rows of 1 2 and of 5 6 7 are those of 1 5 and 2 6; the ending is that of the value whose items are used up; it is the one
 /// that was recorded, and where none was, that of the first such value; while there is no such value, the rows are Open.
@@ -13,11 +13,12 @@ pub fn zip_worked()
     ensures open { ZipsOpen }
 {}
 
-/// A row stands at each item once both values have had one; the completion of a value without any item ends them, and behind
-/// that nothing can be chosen.
+/// A row stands at each item once both values have had one; the completion of a value without any item ends them, and a choice
+/// behind that has only to find a signal. As a node chooses, nothing is chosen there.
 pub fn combine_latest_worked()
     ensures both { CombinesBoth }
     ensures up_to { CombinesUpTo }
+    ensures until_stop { CombinesUntilStop }
     ensures chosen { CombinesChosen }
 {}
 

@@ -1,9 +1,10 @@
 //! Laws above the definitions of the operators. Each is the contract of a function that does nothing.
 
-ghost use Rattle.std.specs.Prelude.{◌≡◌, ℕ, List, map, Ok};
+ghost use Rattle.std.specs.Prelude.{◌≡◌, ℕ, List, map, Ok, Some};
 ghost use Rattle.rsx_types.specs.Meaning.{Meaning};
 ghost use Rattle.rsx_types.specs.Stream.{Stream};
-ghost use Rattle.rsx_model.specs.Eval.{Environment};
+ghost use Rattle.rsx_types.specs.declared.note.Note.{Note};
+ghost use Rattle.rsx_model.specs.Eval.{Environment, environment, environment_until_stop, eval};
 ghost use Rattle.rsx_model.specs.Laws.{ScanFolds, IsCut, BufferCuts, DistinctKeepsFirst, NoBadRequest};
 
 use crate::Expr;
@@ -32,4 +33,11 @@ pub fn distinct_keeps_first<T>()
 /// `Cause::NonPositiveRequest`, where no hub's value does.
 pub fn never_a_bad_request<T>()
     ensures { (w : Environment T) (e : Expr T) → NoBadRequest w e }
+{}
+
+/// Where an expression has a value with nothing chosen behind the point where the rows of a `combineLatest` stop, that is its value.
+/// So nodes choose, which have ended there: what is said of graphs by that value is said of the value from scratch.
+pub fn value_until_stop<T>()
+    ensures { (m : Meaning T) (hubs : List (Stream T)) (joins : List ℕ) (notes : List Note) (e : Expr T) (s : Stream T)
+        → eval (environment_until_stop m hubs joins notes) e ≡ Some s → eval (environment m hubs joins notes) e ≡ Some s }
 {}

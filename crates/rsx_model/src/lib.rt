@@ -51,6 +51,8 @@ pub use check::{
 };
 pub use evaluate::{ScratchRefusal, scratch};
 pub use expr::{Below, Expr, below_of};
-pub use law::{buffer_cuts, distinct_keeps_first, never_a_bad_request, scan_folds};
+pub use law::{
+    buffer_cuts, distinct_keeps_first, never_a_bad_request, scan_folds, value_until_stop,
+};
 pub use region::region_of;
 pub use rsx_types::{Choices, Note, Stage, StreamValue};

@@ -11,7 +11,7 @@ use Rattle.rsx_rooted.specs.Regions.{Adds, Carries, IsCutBetween}
 use Rattle.rsx_rooted.specs.Cutting.{items_of}
 use Rattle.rsx_rooted.specs.declared.nodes.CrossingNodes.{Ghosts as CrossingNodes}
 use Rattle.rsx_pipe.specs.Cutting.{IsCut, Place, ReadsAt, can_join_in, can_take_back, fits_behind, held_in, is_end, new_root, place_at, root_below, sender_at, with_node}
-use Rattle.rsx_pipe.specs.Joined.{HasReached, JoinsAfterMoves, JoinsAtOnce}
+use Rattle.rsx_pipe.specs.Joined.{JoinsAfterMoves, JoinsAtOnce}
 use Rattle.rsx_pipe.specs.Part.{Part}
 use Rattle.rsx_sources.specs.Prelude.{Meaning, Next, Reading, Signal, Stream, reads_hub}
 use Rattle.rsx_sources.specs.declared.machine.Machine.{Ghosts as Machine}

@@ -16,7 +16,7 @@ use Rattle.rsx_tree.specs.Prelude.{IsTreeReadAt, count_before, edge_view, is_liv
 use Rattle.rsx_pipe.specs.Published.{AreTaken, IsTaken}
 use Rattle.rsx_pipe.specs.Output.{counts_in, items_in, IsUnended, more_after, published_then, values_then}
 use Rattle.rsx_pipe.specs.Part.{PartStands, IsQuiet, HasReadAll, IsDelivered, IsServed, HasEnded, all_edges, send_enabled, evaluated}
-use Rattle.rsx_pipe.specs.Tree.{comes_out, notes_of, offers, can_ask, can_send, can_go, IsAllClosed, IsIdle, IsBalanced, IsWithin, IsStill}
+use Rattle.rsx_pipe.specs.Tree.{comes_out, notes_of, offers, can_ask, can_send, can_go, IsIdle, IsBalanced, IsWithin, IsStill}
 use Rattle.rsx_tree.specs.declared.look.NodeMove.TheVariants.{Ask, Send, Pick, Row}
 use Rattle.rsx_tree.specs.declared.edge.EdgeState.{EdgeState}
 use Rattle.rsx_tree.specs.declared.edge.EdgeState.TheVariants.{Live, Closed, Ended}
@@ -29,7 +29,7 @@ use Rattle.rsx_tree.proofs.Residuals.{Settles}
 use Rattle.rsx_tree.proofs.Rests.{tree_rests}
 use Rattle.rsx_tree.specs.Rests.{Rests}
 use Rattle.rsx_pipe.proofs.Trees.{unchosen_tree}
-use Rattle.rsx_tree.proofs.Idles.{Waits, can_pass_live, live_still, place_none, station_none}
+use Rattle.rsx_tree.proofs.Idles.{IsAskedEnough, Waits, can_pass_live, live_still, place_none, station_none}
 use Rattle.rsx_pipe.proofs.Signals.{prefix_of_orderly, cut_value}
 use Rattle.rsx_rooted.proofs.Numbers.{above_zero, suc_minus}
 use Rattle.rsx_rooted.proofs.Trees.{unchosen_notes, notes_then-unchosen}
@@ -148,10 +148,10 @@ pub still_root : {M T : Type 0} (b : Machine M T) (m : Meaning T) (part : Part M
 still_root b m part room q = ((λ input l. q (Pick 0 input) (omega arith, l)), q (Row 0) (omega arith))
 
 -- over a live root edge with room behind it, of which more is asked than went, nothing more comes
-nothing_more : {M T : Type 0} (b : Machine M T) (m : Meaning T) (waits : Waits b m) (settles : Settles b m) (rests : Rests b m) (hubs : List (Stream T)) (part : Part M) (room : Bool) → IsQuiet b m part room → part.root.state ≡ Live → room ≡ true → IsBalanced b part.tree part.root.demand.sent → length (all_edges part) ≤ MOST_NODES → IsWithin part.tree → HasReadAll b m hubs part → part.root.demand.sent < part.root.demand.asked →
+nothing_more : {M T : Type 0} (b : Machine M T) (m : Meaning T) (waits : Waits b m) (enough : IsAskedEnough b m) (settles : Settles b m) (rests : Rests b m) (hubs : List (Stream T)) (part : Part M) (room : Bool) → IsQuiet b m part room → part.root.state ≡ Live → room ≡ true → IsBalanced b part.tree part.root.demand.sent → length (all_edges part) ≤ MOST_NODES → IsWithin part.tree → HasReadAll b m hubs part → part.root.demand.sent < part.root.demand.asked →
     comes_out b m hubs (map unchosen (notes_of b part.tree)) part.tree 0 ≡ Some (ended_by Open)
-nothing_more {T = T} b m waits settles rests hubs part room q live free bal few w read less =
-    tree_rests b m waits settles rests hubs (map unchosen (notes_of b part.tree)) part.tree part.root.demand.asked part.root.demand.sent (idle_tree b m part room q few) (live_still b part.root part.tree.machine can (still_root b m part room q)) bal less (let k = few_below part few in omega (arith, k)) w (read live) (unchosen_tree b part.tree) (none_from_no_some (offers b m part.tree) silent)
+nothing_more {T = T} b m waits enough settles rests hubs part room q live free bal few w read less =
+    tree_rests b m waits enough settles rests hubs (map unchosen (notes_of b part.tree)) part.tree part.root.demand.asked part.root.demand.sent (idle_tree b m part room q few) (live_still b part.root part.tree.machine can (still_root b m part room q)) bal less (let k = few_below part few in omega (arith, k)) w (read live) (unchosen_tree b part.tree) (none_from_no_some (offers b m part.tree) silent)
   where
     can : is_live part.root.state ≡ true
     can = ap is_live live
@@ -220,9 +220,9 @@ served_whole b m published part e joins output live h more v none x =
       ending = λ less some. absurd (some (ap (λ w. w.ending) whole));
     }
 
-served_live : {M T : Type 0} (b : Machine M T) (m : Meaning T) (waits : Waits b m) (settles : Settles b m) (rests : Rests b m) (published : List (Stream T)) (part : Part M) (room : Bool) (e : Expr T) (joins : List ℕ) (output : List (Signal T)) → IsQuiet b m part room → part.root.state ≡ Live → room ≡ true → length (all_edges part) ≤ MOST_NODES → IsWithin part.tree → PartStands b m published part e joins output → (more : List (Stream T)) (v : Stream T) → HasReadAll b m (values_then published more) part → evaluated m (values_then published more) joins e (notes_of b part.tree) ≡ Some v → IsServed part output v
-served_live b m waits settles rests published part room e joins output q live free few w h more v read x = elim (cases_lt part.root.demand.sent part.root.demand.asked) [
-  | inl less ↦ served_whole b m published part e joins output live h more v (nothing_more b m waits settles rests (values_then published more) part room q live free (h.balance live) few w read less) x
+served_live : {M T : Type 0} (b : Machine M T) (m : Meaning T) (waits : Waits b m) (enough : IsAskedEnough b m) (settles : Settles b m) (rests : Rests b m) (published : List (Stream T)) (part : Part M) (room : Bool) (e : Expr T) (joins : List ℕ) (output : List (Signal T)) → IsQuiet b m part room → part.root.state ≡ Live → room ≡ true → length (all_edges part) ≤ MOST_NODES → IsWithin part.tree → PartStands b m published part e joins output → (more : List (Stream T)) (v : Stream T) → HasReadAll b m (values_then published more) part → evaluated m (values_then published more) joins e (notes_of b part.tree) ≡ Some v → IsServed part output v
+served_live b m waits enough settles rests published part room e joins output q live free few w h more v read x = elim (cases_lt part.root.demand.sent part.root.demand.asked) [
+  | inl less ↦ served_whole b m published part e joins output live h more v (nothing_more b m waits enough settles rests (values_then published more) part room q live free (h.balance live) few w read less) x
   | inr full ↦ served_all b m published part e joins output full h more v x
 ]
 
@@ -238,18 +238,18 @@ served_ended b m published part e joins output s h more v x =
       ending = λ _ _. s;
     }
 
-pub delivered : {M T : Type 0} (b : Machine M T) (m : Meaning T) (waits : Waits b m) (settles : Settles b m) (rests : Rests b m) (part : Part M) (room : Bool) → IsQuiet b m part room → IsDelivered b m part room
-delivered {T = T} b m waits settles rests part room q published e joins output h unclosed free few w more v read x = by_state part.root.state refl
+pub delivered : {M T : Type 0} (b : Machine M T) (m : Meaning T) (waits : Waits b m) (enough : IsAskedEnough b m) (settles : Settles b m) (rests : Rests b m) (part : Part M) (room : Bool) → IsQuiet b m part room → IsDelivered b m part room
+delivered {T = T} b m waits enough settles rests part room q published e joins output h unclosed free few w more v read x = by_state part.root.state refl
   where
     by_state : (s : EdgeState) → part.root.state ≡ s → IsServed part output v
-    by_state Live s = served_live b m waits settles rests published part room e joins output q s free few w h more v read x
+    by_state Live s = served_live b m waits enough settles rests published part room e joins output q s free few w h more v read x
     by_state Ended s = served_ended b m published part e joins output s h more v x
     by_state Closed s = absurd (unclosed s)
 
 -- ---- how driving ends
 
 -- where it ends Idle, all is delivered
-pub ended_served : {M T : Type 0} (E : Type 0) (b : Machine M T) (m : Meaning T) (waits : Waits b m) (settles : Settles b m) (rests : Rests b m) (budget n : ℕ) (part : Part M) (room : Bool) (result : Result Pumped E) → HasEnded b m budget n part room result → IfOk result (λ p. (left : ℕ) → p ≡ Idle left → IsDelivered b m part room)
-ended_served E b m waits settles rests budget n part room (Ok (Idle k)) h = λ left e. delivered b m waits settles rests part room h.1
-ended_served E b m waits settles rests budget n part room (Ok Budget) h = λ left e. cc
-ended_served E b m waits settles rests budget n part room (Err e) h = tt
+pub ended_served : {M T : Type 0} (E : Type 0) (b : Machine M T) (m : Meaning T) (waits : Waits b m) (enough : IsAskedEnough b m) (settles : Settles b m) (rests : Rests b m) (budget n : ℕ) (part : Part M) (room : Bool) (result : Result Pumped E) → HasEnded b m budget n part room result → IfOk result (λ p. (left : ℕ) → p ≡ Idle left → IsDelivered b m part room)
+ended_served E b m waits enough settles rests budget n part room (Ok (Idle k)) h = λ left e. delivered b m waits enough settles rests part room h.1
+ended_served E b m waits enough settles rests budget n part room (Ok Budget) h = λ left e. cc
+ended_served E b m waits enough settles rests budget n part room (Err e) h = tt

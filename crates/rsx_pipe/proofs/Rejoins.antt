@@ -11,7 +11,6 @@ use Rattle.rsx_rooted.specs.Cutting.{HoldsEnding, ending_of, endings, is_some}
 use Rattle.rsx_rooted.specs.declared.nodes.CrossingNodes.{Ghosts as CrossingNodes}
 use Rattle.rsx_pipe.proofs.Cuts.{cut_there, ended_row, holds_some, is_false, joined_regions, next_append, place_is, reads_at}
 use Rattle.rsx_pipe.specs.Cutting.{can_join_in, can_take_back, held_in, is_end, place_at, with_node}
-use Rattle.rsx_pipe.specs.Part.{Part}
 use Rattle.rsx_pipe.specs.Rejoined.{JoinsAfterEnding, JoinsAtEnd, can_end_here, can_put_in, ending_in, put_node}
 use Rattle.rsx_sources.specs.Prelude.{Complete, Done, Ending, Error, Failed, LetsGo, Meaning, Next, Note, Open, Reading, Signal, Stream, ends_input, reads_hub, signal_then, signals_then}
 use Rattle.rsx_sources.specs.declared.machine.Machine.{Ghosts as Machine}

@@ -64,6 +64,7 @@ impl<T: Drop> Machine for PlainNode<T> {
     ghost use Rattle.rsx_plain.specs.Node.{plain_comes_out, plain_waiting, plain_shown, plain_takes, plain_wanted, plain_popped, plain_ended, plain_allocates, plain_counted, NeedsNothing};
     ghost use Rattle.rsx_plain.specs.State.{is_over, after_signal, Counts};
     ghost use Rattle.rsx_plain.specs.declared.node.PlainNode.{PlainNode};
+    ghost use Rattle.std.proofs.lemmas.Bool.{true≢false};
 
     ghost comes_out = { plain_comes_out };
 
@@ -92,6 +93,8 @@ impl<T: Drop> Machine for PlainNode<T> {
     ghost counted = { plain_counted };
 
     ghost wanted = { plain_wanted };
+
+    ghost accepts = { λ n a s. true };
 
     ghost popped = { plain_popped };
 
@@ -267,6 +270,11 @@ impl<T: Drop> Machine for PlainNode<T> {
         self.state.want(asked, sent)
     }
 
+    #[inline(always)]
+    fn accepts_demand(&self, asked: u64, sent: u64) -> bool {
+        true
+    }
+
     fn note(&self, alloc: Global) -> Result<Note, NoMemory> {
         Ok(Note::Nothing)
     }
@@ -320,4 +328,6 @@ impl<T: Drop> Machine for PlainNode<T> {
     ghost ending_waits = { plain_ending_waits };
 
     ghost hungry = { plain_hungry };
+
+    ghost asked_enough = { λ n a s e. absurd (true≢false e) };
 }

@@ -33,6 +33,7 @@ either a b = record {
   done = by_kind a.done b.done;
   counted = by_kind a.counted b.counted;
   wanted = by_kind a.wanted b.wanted;
+  accepts = by_kind a.accepts b.accepts;
   popped = λ old s new. OfOneKind (λ x y. a.popped x s y) (λ x y. b.popped x s y) old new;
   reads = by_kind a.reads b.reads;
   rooms = by_kind a.rooms b.rooms;

@@ -54,6 +54,8 @@ impl<A: Machine, B: Machine<Item = A::Item>> Machine for EitherNode<A, B> {
 
     ghost wanted = { (either A.Machine B.Machine).wanted };
 
+    ghost accepts = { (either A.Machine B.Machine).accepts };
+
     ghost popped = { (either A.Machine B.Machine).popped };
 
     ghost reads = { (either A.Machine B.Machine).reads };
@@ -280,6 +282,14 @@ impl<A: Machine, B: Machine<Item = A::Item>> Machine for EitherNode<A, B> {
         }
     }
 
+    #[inline(always)]
+    fn accepts_demand(&self, asked: u64, sent: u64) -> bool {
+        match self {
+            EitherNode::Left(node) => node.accepts_demand(asked, sent),
+            EitherNode::Right(node) => node.accepts_demand(asked, sent),
+        }
+    }
+
     fn note(&self, alloc: Global) -> Result<Note, NoMemory> {
         match self {
             EitherNode::Left(node) => node.note(alloc),
@@ -317,4 +327,6 @@ impl<A: Machine, B: Machine<Item = A::Item>> Machine for EitherNode<A, B> {
     ghost ending_waits = { λ m. elim [ Left x ↦ A.ending_waits m x | Right y ↦ B.ending_waits m y ] };
 
     ghost hungry = { λ m. elim [ Left x ↦ λ taken asked sent still counted none more within. left_hungry A.Machine.own B.Machine.own x taken asked sent (A.hungry m x taken asked sent still counted none more within) | Right y ↦ λ taken asked sent still counted none more within. right_hungry A.Machine.own B.Machine.own y taken asked sent (B.hungry m y taken asked sent still counted none more within) ] };
+
+    ghost asked_enough = { elim [ Left x ↦ A.asked_enough x | Right y ↦ B.asked_enough y ] };
 }

@@ -67,6 +67,7 @@ impl<P: Processor<Item = T>, T: Drop> Machine for ProcessorNode<P, T> {
     ghost use Rattle.rsx_processor.specs.Node.{node_comes_out, node_waiting, node_shown, node_takes, node_ended, node_counted, node_wanted, node_popped, node_allocates};
     ghost use Rattle.rsx_processor.specs.Laws.{nothing_done, node_alike, node_drops, node_ends, node_ending_waits, node_hungry};
     ghost use Rattle.rsx_processor.specs.declared.node.ProcessorNode.{ProcessorNode};
+    ghost use Rattle.std.proofs.lemmas.Bool.{true≢false};
 
     ghost comes_out = { node_comes_out P.Processor };
 
@@ -95,6 +96,8 @@ impl<P: Processor<Item = T>, T: Drop> Machine for ProcessorNode<P, T> {
     ghost counted = { node_counted P.Processor };
 
     ghost wanted = { node_wanted P.Processor };
+
+    ghost accepts = { λ n a s. true };
 
     ghost popped = { node_popped };
 
@@ -244,6 +247,11 @@ impl<P: Processor<Item = T>, T: Drop> Machine for ProcessorNode<P, T> {
         self.processor.want(asked)
     }
 
+    #[inline(always)]
+    fn accepts_demand(&self, asked: u64, sent: u64) -> bool {
+        true
+    }
+
     fn note(&self, alloc: Global) -> Result<Note, NoMemory> {
         Ok(Note::Nothing)
     }
@@ -289,4 +297,6 @@ impl<P: Processor<Item = T>, T: Drop> Machine for ProcessorNode<P, T> {
     ghost ending_waits = { λ m n asked sent e none more. absurd (node_ending_waits n e none) };
 
     ghost hungry = { λ m n taken asked sent still counted none more within. node_hungry P.Processor.own P.wants_more n taken asked sent counted none more within };
+
+    ghost asked_enough = { λ n a s e. absurd (true≢false e) };
 }

@@ -7,5 +7,5 @@ pub use Rattle.rsx_queued.specs.Merged.{merge_behind, merge_cut_off}
 pub use Rattle.rsx_queued.specs.Output.{IsOut, first_output, has_ending, is_empty, is_over, out_signal, output_then}
 pub use Rattle.rsx_queued.specs.Queued.{can_move, counted_in, ended_in, is_ended, may_go, node_sent, note_of_shown, out, pick_by, pick_of, pop_note, queued_recording, reads_in, recording_by, row_by, row_of}
 pub use Rattle.rsx_queued.specs.QueuedLaws.{Goes, Shows, may_go_less, moved_goes, nothing_noted, nothing_queued}
-pub use Rattle.rsx_queued.specs.Sender.{sender_comes_out, sender_counted, sender_done, sender_ended, sender_picks, sender_popping, sender_reads, sender_recorded, sender_rooms, sender_rows, sender_takes, sender_waiting, sender_wanted}
+pub use Rattle.rsx_queued.specs.Sender.{sender_accepts, sender_comes_out, sender_counted, sender_done, sender_ended, sender_picks, sender_popping, sender_reads, sender_recorded, sender_rooms, sender_rows, sender_takes, sender_waiting, sender_wanted}
 pub use Rattle.rsx_queued.specs.Values.{first_values, head_of, tail_of}

@@ -132,6 +132,16 @@ queued_counted b n took sent = counted_in b n.node n.queue n.tail took sent
 abbrev pub queued_wanted : {M T : Type 0} → Machine M T → Queued M T → ℕ → ℕ → ℕ → ℕ
 queued_wanted b n i asked taken = b.wanted n.node i asked (node_sent n.queue asked taken)
 
+-- No more demand is accepted where the ending stands in the queue, and the items in front of it were asked for.
+abbrev pub accepts_in : {T : Type 0} → List T → Tail → ℕ → ℕ → Bool
+accepts_in q Open asked taken = true
+accepts_in q Completion asked taken = nat_lt asked (taken + length q)
+accepts_in q (Failure c) asked taken = nat_lt asked (taken + length q)
+accepts_in q Taken asked taken = true
+
+abbrev pub queued_accepts : {M T : Type 0} → Queued M T → ℕ → ℕ → Bool
+queued_accepts n asked taken = accepts_in n.queue n.tail asked taken
+
 -- the oldest signal leaves the queue; an item leaves room for itself
 abbrev pub queued_popped : {M T : Type 0} → Queued M T → Signal T → Queued M T → Type 0
 queued_popped old (Next x) new = (old.node ≡ new.node) × (old.queue ≡ x ∷ new.queue) × (old.tail ≡ new.tail) × (length new.queue < CAPACITY)

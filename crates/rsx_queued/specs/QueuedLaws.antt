@@ -1,8 +1,9 @@
 -- A node with its queue keeps the laws of a node, where the node inside does.
-use Rattle.std.specs.Prelude.{◌≡◌, ℕ, ◌+◌, ◌<◌, ◌^◌, Bool, true, false, ◌&&◌, ◌||◌, ◌⊎◌, nat_lt, min, List, [], ◌∷◌, ◌++◌, length, Option, Some, None, option_map, refl}
+use Rattle.std.specs.Prelude.{◌≡◌, ℕ, suc, ◌+◌, ◌<◌, ◌^◌, Bool, true, false, ◌&&◌, ◌||◌, ◌⊎◌, nat_lt, min, List, [], ◌∷◌, ◌++◌, length, Option, Some, None, option_map, refl}
 use Rattle.std.proofs.Common.{inl, inr, sym, ap, ◌∙◌, subst, arith}
+use Rattle.std.proofs.lemmas.Bool.{cases_lt, lt-ltb, true≢false}
 use Rattle.std.proofs.lemmas.Bool.Decides.{nat_tests}
-use Rattle.rsx_sources.specs.Prelude.{Note, Signal, Next, Complete, Error, Meaning, unchosen, Stream, AreWithin, CanStep, IsHungry, ends_input, Incoming, front_of, incoming_of}
+use Rattle.rsx_sources.specs.Prelude.{Note, Signal, Next, Complete, Error, Meaning, unchosen, Stream, AreWithin, CanStep, IsHungry, ends_input, Incoming, front_of, incoming_of, OffersWithin}
 use Rattle.rsx_sources.specs.declared.machine.Front.{Front}
 use Rattle.rsx_sources.specs.declared.machine.Front.TheVariants.{Item, Completion as CompletionFront, Failure as FailureFront}
 use Rattle.rsx_sources.specs.declared.machine.Machine.{Ghosts as Machine}
@@ -10,7 +11,7 @@ use Rattle.rsx_queued.specs.declared.queued.Queued.{Queued}
 use Rattle.rsx_queued.specs.declared.tail.Tail.{Tail}
 use Rattle.rsx_queued.specs.declared.tail.Tail.TheVariants.{Open, Completion, Failure, Taken}
 use Rattle.rsx_queued.specs.Held.{is_open, held_then, first_held, first_shown, comes_in_at}
-use Rattle.rsx_queued.specs.Queued.{out, queued_comes_out, queued_waiting, queued_shown, queued_takes, queued_picks, queued_rows, queued_ended, queued_done, queued_counted, queued_wanted, queued_popped, QueuedAlike, node_sent, may_go, can_move, note_of_shown, pop_note, pick_by, row_by, pick_of, row_of, is_ended, ended_in, queued_reads, reads_in}
+use Rattle.rsx_queued.specs.Queued.{out, queued_comes_out, queued_waiting, queued_shown, queued_takes, queued_picks, queued_rows, queued_ended, queued_done, queued_counted, queued_wanted, accepts_in, queued_accepts, queued_popped, QueuedAlike, node_sent, may_go, can_move, note_of_shown, pop_note, pick_by, row_by, pick_of, row_of, is_ended, ended_in, queued_reads, reads_in}
 
 -- ---- the laws of the node inside
 
@@ -104,6 +105,25 @@ ends_reading_in b n q Taken s w e = refl
 
 pub queued_ends_reading : {M T : Type 0} (b : Machine M T) (m : Meaning T) (n : Queued M T) (s : Signal T) → queued_waiting m n ≡ Some s → ends_input s ≡ true → queued_reads b n ≡ None
 queued_ends_reading b m n s w e = ends_reading_in b n.node n.queue n.tail s w e
+
+-- ---- once it accepts no more demand, what it offers may go
+
+within : (asked taken k : ℕ) → nat_lt asked (taken + suc k) ≡ false → taken < asked
+within asked taken k e = elim (cases_lt taken asked) [
+  | inl l ↦ l
+  | inr m ↦ absurd (true≢false (sym (lt-ltb asked (taken + suc k) (omega (arith, m))) ∙ e))
+]
+
+enough_in : {T : Type 0} (q : List T) (t : Tail) (asked taken : ℕ) → accepts_in q t asked taken ≡ false → OffersWithin (first_shown q t) asked taken
+enough_in q Open asked taken e = cc
+enough_in q Taken asked taken e = cc
+enough_in [] Completion asked taken e = tt
+enough_in [] (Failure c) asked taken e = tt
+enough_in (x ∷ xs) Completion asked taken e = within asked taken (length xs) e
+enough_in (x ∷ xs) (Failure c) asked taken e = within asked taken (length xs) e
+
+pub queued_enough : {M T : Type 0} (n : Queued M T) (asked taken : ℕ) → queued_accepts n asked taken ≡ false → OffersWithin (queued_shown n) asked taken
+queued_enough n asked taken e = enough_in n.queue n.tail asked taken e
 
 -- ---- something comes out
 

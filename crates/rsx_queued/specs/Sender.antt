@@ -1,13 +1,13 @@
 -- A node whose edge crosses to another region or doesn't.
 use Rattle.std.specs.Prelude.{◌≡◌, ℕ, ◌<◌, Bool, true, false, List, Option, Some, None, option_map, ◌∷◌, ◌++◌, length, refl}
 use Rattle.std.proofs.Common.{inl, inr}
-use Rattle.rsx_sources.specs.Prelude.{Note, Signal, Meaning, Allocates, unchosen, Stream, AreWithin, CountsIn, CountsStep, CanStep, IsHungry, ends_input, Incoming, front_of, incoming_of, IsSameKind, StaysAlike, Reading, takes_published}
+use Rattle.rsx_sources.specs.Prelude.{Note, Signal, Meaning, Allocates, unchosen, Stream, AreWithin, CountsIn, CountsStep, CanStep, IsHungry, ends_input, Incoming, OffersWithin, front_of, incoming_of, IsSameKind, StaysAlike, Reading, takes_published}
 use Rattle.rsx_sources.specs.declared.machine.Front.{Front}
 use Rattle.rsx_sources.specs.declared.machine.Machine.{Ghosts as Machine}
 use Rattle.rsx_queued.specs.declared.sender.Sender.{Sender}
 use Rattle.rsx_queued.specs.declared.sender.Sender.TheVariants.{Direct, Crossing}
-use Rattle.rsx_queued.specs.QueuedLaws.{Shows, Drops, Ends, Settles, Waits, Hungers, DoneDrops, queued_shows, queued_popped_alike, queued_drops, queued_ends, queued_ends_reading, queued_done_drops, queued_settles, queued_ending_waits, queued_hungry}
-use Rattle.rsx_queued.specs.Queued.{queued_comes_out, queued_waiting, queued_shown, queued_takes, queued_picks, queued_rows, queued_recording, queued_ended, queued_done, queued_counted, queued_wanted, queued_popped, queued_reads, queued_rooms, queued_allocates, queued_step_allocates}
+use Rattle.rsx_queued.specs.QueuedLaws.{Shows, Drops, Ends, Settles, Waits, Hungers, DoneDrops, queued_shows, queued_popped_alike, queued_drops, queued_ends, queued_ends_reading, queued_done_drops, queued_settles, queued_ending_waits, queued_hungry, queued_enough}
+use Rattle.rsx_queued.specs.Queued.{queued_comes_out, queued_waiting, queued_shown, queued_takes, queued_picks, queued_rows, queued_recording, queued_ended, queued_done, queued_counted, queued_wanted, queued_accepts, queued_popped, queued_reads, queued_rooms, queued_allocates, queued_step_allocates}
 use Rattle.rsx_queued.specs.Transfer.{IsQueuedRow}
 
 -- ---- its meaning is that of the node, or of the node with its queue
@@ -69,6 +69,10 @@ sender_counted b (Crossing n) took sent = queued_counted b n took sent
 abbrev pub sender_wanted : {M T : Type 0} → Machine M T → Sender M T → ℕ → ℕ → ℕ → ℕ
 sender_wanted b (Direct n) i a s = b.wanted n i a s
 sender_wanted b (Crossing n) i a s = queued_wanted b n i a s
+
+abbrev pub sender_accepts : {M T : Type 0} → Machine M T → Sender M T → ℕ → ℕ → Bool
+sender_accepts b (Direct n) a s = b.accepts n a s
+sender_accepts b (Crossing n) a s = queued_accepts n a s
 
 abbrev pub sender_popped : {M T : Type 0} → Machine M T → Sender M T → Signal T → Sender M T → Type 0
 sender_popped b (Direct x) s (Direct y) = b.popped x s y
@@ -186,3 +190,10 @@ sender_hungry b m shows hungers (Crossing n) took asked sent going counted none 
     ]
   ]
 ]
+
+abbrev pub IsAskedEnough : {M T : Type 0} → Machine M T → Type 0
+IsAskedEnough {M} b = (n : M) (asked sent : ℕ) → b.accepts n asked sent ≡ false → OffersWithin (b.shown n) asked sent
+
+pub sender_enough : {M T : Type 0} (b : Machine M T) → IsAskedEnough b → (n : Sender M T) (asked sent : ℕ) → sender_accepts b n asked sent ≡ false → OffersWithin (sender_shown b n) asked sent
+sender_enough b enough (Direct n) asked sent e = enough n asked sent e
+sender_enough b enough (Crossing n) asked sent e = queued_enough n asked sent e

@@ -117,8 +117,8 @@ impl<M: Machine<Item = T>, T: Drop> Queued<M, T> {
 impl<M: Machine<Item = T>, T: Drop> Machine for Queued<M, T> {
     type Item = T;
 
-    ghost use Rattle.rsx_queued.specs.QueuedLaws.{queued_shows, queued_popped_alike, queued_drops, queued_ends, queued_settles, queued_ending_waits, queued_hungry, queued_ends_reading, queued_done_drops};
-    ghost use Rattle.rsx_queued.specs.Queued.{queued_comes_out, queued_waiting, queued_shown, queued_takes, queued_picks, queued_rows, queued_recording, pop_note, queued_ended, queued_done, queued_counted, queued_wanted, queued_popped, queued_takes_published, queued_allocates, queued_step_allocates, can_transfer, QueuedCountsIn, QueuedCountsStep, QueuedAlike, queued_reads, queued_rooms};
+    ghost use Rattle.rsx_queued.specs.QueuedLaws.{queued_shows, queued_popped_alike, queued_drops, queued_ends, queued_settles, queued_ending_waits, queued_hungry, queued_ends_reading, queued_done_drops, queued_enough};
+    ghost use Rattle.rsx_queued.specs.Queued.{queued_comes_out, queued_waiting, queued_shown, queued_takes, queued_picks, queued_rows, queued_recording, pop_note, queued_ended, queued_done, queued_counted, queued_wanted, queued_accepts, queued_popped, queued_takes_published, queued_allocates, queued_step_allocates, can_transfer, QueuedCountsIn, QueuedCountsStep, QueuedAlike, queued_reads, queued_rooms};
     ghost use Rattle.rsx_queued.specs.declared.queued.Queued.{Queued};
     ghost use Rattle.rsx_sources.specs.Machine.{IsComposed, TakesIn, Keeps, Records, front_of};
     ghost use Rattle.rsx_sources.specs.Steps.{IsNotTaken, IsNotMade, IsSameKind, StaysAlike};
@@ -157,6 +157,8 @@ impl<M: Machine<Item = T>, T: Drop> Machine for Queued<M, T> {
     ghost counted = { queued_counted M.Machine };
 
     ghost wanted = { queued_wanted M.Machine };
+
+    ghost accepts = { queued_accepts };
 
     ghost popped = { queued_popped };
 
@@ -469,6 +471,18 @@ impl<M: Machine<Item = T>, T: Drop> Machine for Queued<M, T> {
         self.node.want(input, asked, self.sent(asked, sent))
     }
 
+    /// In every state that calls reach, what stands in front of the ending was asked for, so no more demand is accepted as soon as the
+    /// ending stands in the queue. Were less asked for, an Ask would have to come first, and so it stays enabled.
+    #[cold]
+    fn accepts_demand(&self, asked: u64, sent: u64) -> bool {
+        match self.tail {
+            Tail::Open | Tail::Taken => true,
+            Tail::Completion | Tail::Failure(_) => {
+                asked < sent || asked - sent < self.queue.len() as u64
+            }
+        }
+    }
+
     #[inline(never)]
     fn note(&self, alloc: Global) -> Result<Note, NoMemory> {
         self.node.note(alloc)
@@ -522,4 +536,6 @@ impl<M: Machine<Item = T>, T: Drop> Machine for Queued<M, T> {
     ghost ending_waits = { λ m n asked sent e none more. queued_ending_waits M.Machine.own m (M.shows m) (M.ending_waits m) n asked sent e none more };
 
     ghost hungry = { λ m n took asked sent going counted none more within. queued_hungry M.Machine.own m (M.shows m) (M.hungry m) n took asked sent going counted none more within };
+
+    ghost asked_enough = { queued_enough };
 }

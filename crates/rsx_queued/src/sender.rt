@@ -19,7 +19,7 @@ pub enum Sender<M, T> {
 impl<M: Machine<Item = T>, T: Drop> Machine for Sender<M, T> {
     type Item = T;
 
-    ghost use Rattle.rsx_queued.specs.Sender.{is_crossing, sender_comes_out, sender_waiting, sender_shown, sender_takes, sender_picks, sender_rows, sender_rowed, sender_recording, sender_recorded, sender_popping, sender_ended, sender_done, sender_counted, sender_wanted, sender_popped, sender_pop_allocates, sender_signal_allocates, sender_step_allocates, sender_shows, sender_alike, sender_drops, sender_ends, sender_settles, sender_ending_waits, sender_hungry, SenderCountsIn, SenderCountsStep, SenderAlike, SenderSameKind, sender_reads, sender_rooms, sender_takes_published, sender_ends_reading, sender_done_drops};
+    ghost use Rattle.rsx_queued.specs.Sender.{is_crossing, sender_comes_out, sender_waiting, sender_shown, sender_takes, sender_picks, sender_rows, sender_rowed, sender_recording, sender_recorded, sender_popping, sender_ended, sender_done, sender_counted, sender_wanted, sender_accepts, sender_popped, sender_pop_allocates, sender_signal_allocates, sender_step_allocates, sender_shows, sender_alike, sender_drops, sender_ends, sender_settles, sender_ending_waits, sender_hungry, SenderCountsIn, SenderCountsStep, SenderAlike, SenderSameKind, sender_reads, sender_rooms, sender_takes_published, sender_ends_reading, sender_done_drops, sender_enough};
     ghost use Rattle.rsx_queued.specs.declared.sender.Sender.{Sender};
     ghost use Rattle.rsx_sources.specs.Machine.{TakesIn, front_of};
     ghost use Rattle.rsx_sources.specs.Steps.{IsNotTaken, IsSameKind, StaysAlike};
@@ -54,6 +54,8 @@ impl<M: Machine<Item = T>, T: Drop> Machine for Sender<M, T> {
     ghost counted = { sender_counted M.Machine };
 
     ghost wanted = { sender_wanted M.Machine };
+
+    ghost accepts = { sender_accepts M.Machine };
 
     ghost popped = { sender_popped M.Machine };
 
@@ -277,6 +279,14 @@ impl<M: Machine<Item = T>, T: Drop> Machine for Sender<M, T> {
         }
     }
 
+    #[inline(always)]
+    fn accepts_demand(&self, asked: u64, sent: u64) -> bool {
+        match self {
+            Sender::Direct(node) => node.accepts_demand(asked, sent),
+            Sender::Crossing(node) => node.accepts_demand(asked, sent),
+        }
+    }
+
     fn note(&self, alloc: Global) -> Result<Note, NoMemory> {
         match self {
             Sender::Direct(node) => node.note(alloc),
@@ -314,4 +324,6 @@ impl<M: Machine<Item = T>, T: Drop> Machine for Sender<M, T> {
     ghost ending_waits = { λ m n asked sent e none more. sender_ending_waits M.Machine.own m (M.shows m) (M.ending_waits m) n asked sent e none more };
 
     ghost hungry = { λ m n took asked sent going counted none more within. sender_hungry M.Machine.own m (M.shows m) (M.hungry m) n took asked sent going counted none more within };
+
+    ghost asked_enough = { λ n asked sent e. sender_enough M.Machine.own M.asked_enough n asked sent e };
 }

@@ -93,6 +93,10 @@ there {M} r i asked sent (More' e n c below d beside) (suc k) p is =
           record { edge = get_left k (edges below) (edges beside) inside ∙ (ap (slice_get (edges below)) (less k) ∙ x.edge); bounded = x.bounded }
     ]
 
+and_left : (c d : Bool) → c && d ≡ true → c ≡ true
+and_left true d h = refl
+and_left false d h = cc
+
 and_right : (c d : Bool) → c && d ≡ true → d ≡ true
 and_right true d h = h
 and_right false d h = cc
@@ -112,7 +116,7 @@ place_grows b r i asked sent t at (Some p) is can e get =
     let x = there r i asked sent t at p is in
     let same : p.edge ≡ e = let a = x.edge in cc in
     let P : EdgeView → Type 0 = λ v. Grows v (asked_up_to (wanted_at b p) v) in
-    subst P same (asked_grows (wanted_at b p) p.edge can x.bounded)
+    subst P same (asked_grows (wanted_at b p) p.edge (and_left (can_ask_for p.edge (wanted_at b p)) _ can) x.bounded)
 
 -- ---- a Send, a pick, and a row
 

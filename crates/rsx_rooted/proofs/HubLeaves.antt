@@ -1,5 +1,5 @@
 -- The node that reads a hub takes in several items of it at once, and lets several out.
-use Rattle.std.proofs.Common.{None, ◌≡◌, ℕ, zero, suc, ◌+◌, ◌<◌, ◌≤◌, min, false, List, [], ◌∷◌, ◌++◌, length, length-append, reverse, take, drop, refl, ap, sym, ◌∙◌, subst, append_assoc, append-nil, arith}
+use Rattle.std.proofs.Common.{None, ◌≡◌, ℕ, zero, suc, ◌+◌, ◌<◌, ◌≤◌, min, false, true, List, [], ◌∷◌, ◌++◌, length, length-append, reverse, take, drop, refl, ap, sym, ◌∙◌, subst, append_assoc, append-nil, arith}
 use Rattle.std.proofs.lemmas.List.{length-reverse, reverse-append, reverse-reverse}
 use Rattle.rsx_hub.proofs.Offers.{first_out, still_member}
 use Rattle.rsx_hub.proofs.Spaces.{item_taken, spaces_after, spaces_room}
@@ -30,6 +30,7 @@ leaf_machine = record {
   done = λ n i. false;
   counted = leaf_counted;
   wanted = λ n i a s. 0;
+  accepts = λ n a s. true;
   popped = leaf_popped;
   reads = leaf_reads;
   rooms = leaf_rooms;

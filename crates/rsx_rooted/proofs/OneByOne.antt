@@ -1,6 +1,6 @@
 -- How a batch through a node is put together from single calls.
-use Rattle.std.proofs.Common.{◌≡◌, inl, inr, List, [], ◌∷◌, ◌++◌, length, refl, ap, sym, ◌∙◌, subst, append-nil, arith}
-use Rattle.std.proofs.lemmas.List.{append_assoc}
+use Rattle.std.proofs.Common.{◌≡◌, inl, inr, List, [], ◌∷◌, ◌++◌, length, refl, ap, sym, ◌∙◌, subst, append-nil}
+use Rattle.std.proofs.lemmas.List.{append_assoc, nil_from_length}
 use Rattle.rsx_rooted.specs.Items.{ArePassed, ArePopped}
 
 -- ---- items that come out of it
@@ -25,15 +25,11 @@ come {T} out old now new done on same =
     let D : List T → Type 0 = λ l. ArePopped out old l new in
     subst D (append-nil done) (on [] new same)
 
-no_item : {T : Type 0} (xs : List T) → length xs ≡ 0 → xs ≡ []
-no_item [] h = refl
-no_item (x ∷ xs) h = absurd (omega (arith, h))
-
 -- where nothing came out, the node is as it was
 pub none_out : {T S : Type 0} (out : S → T → S → Type 0) (old now new : S) (done : List T) → IsComing out old now done → new ≡ now → length done ≡ 0 → (new ≡ old) × (done ≡ [])
 none_out {T} out old now new done on same long =
     let D : List T → Type 0 = λ l. ArePopped out old l new in
-    let none : done ≡ [] = no_item done long in
+    let none : done ≡ [] = nil_from_length done long in
     (subst D none (come out old now new done on same), none)
 
 -- ---- through a node that stands in another

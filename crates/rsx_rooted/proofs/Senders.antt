@@ -10,7 +10,7 @@ use Rattle.rsx_queued.specs.declared.tail.Tail.TheVariants.{Open, Completion, Fa
 use Rattle.rsx_tree.specs.Allocates.{IsNodeAlike}
 use Rattle.rsx_tree.specs.Stepped.{IsStepOf}
 use Rattle.rsx_queued.proofs.Senders.{passed_direct}
-use Rattle.rsx_queued.specs.Sender.{is_crossing, sender_popping, sender_comes_out, sender_waiting, sender_shown, sender_takes, sender_picks, sender_rows, sender_rowed, sender_recording, sender_recorded, sender_ended, sender_done, sender_counted, sender_wanted, sender_popped, sender_pop_allocates, sender_signal_allocates, sender_step_allocates, sender_reads, sender_rooms}
+use Rattle.rsx_queued.specs.Sender.{is_crossing, sender_popping, sender_comes_out, sender_waiting, sender_shown, sender_takes, sender_picks, sender_rows, sender_rowed, sender_recording, sender_recorded, sender_ended, sender_done, sender_counted, sender_wanted, sender_accepts, sender_popped, sender_pop_allocates, sender_signal_allocates, sender_step_allocates, sender_reads, sender_rooms}
 use Rattle.rsx_queued.specs.declared.sender.Sender.{Sender}
 use Rattle.rsx_queued.specs.declared.sender.Sender.TheVariants.{Direct, Crossing}
 use Rattle.rsx_sources.specs.Prelude.{Meaning, Note}
@@ -39,6 +39,7 @@ sender_machine b = record {
   done = sender_done b;
   counted = sender_counted b;
   wanted = sender_wanted b;
+  accepts = sender_accepts b;
   popping = sender_popping b;
   popped = sender_popped b;
   reads = sender_reads b;

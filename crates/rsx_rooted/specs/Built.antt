@@ -2,7 +2,7 @@
 use Rattle.std.specs.Prelude.{◌≡◌, ⊤, ℕ, zero, suc, ◌+◌, Bool, true, false, List, [], ◌∷◌, ◌++◌, map, Option, Some, slice_get}
 use Rattle.rsx_hub.specs.Hub.{HubState, HasTakenIn, BeginsWith, join}
 use Rattle.rsx_hub.specs.Member.{ending_taken}
-use Rattle.rsx_model.specs.Eval.{environment, meant}
+use Rattle.rsx_model.specs.Eval.{environment_until_stop, meant}
 use Rattle.rsx_model.specs.Shape.{children}
 use Rattle.rsx_model.specs.declared.expr.Expr.{Expr}
 use Rattle.rsx_model.specs.declared.expr.Expr.TheFolds.{fold-Expr}
@@ -169,7 +169,7 @@ StandAt all at (n ∷ ns) = (slice_get all at ≡ Some n) × StandAt all (at + 1
 -- expression's prefetch says, and its counts are balanced
 pub record IsBuilt {M T : Type 0} (b : Machine M T) (m : Meaning T) (hubs : List (HubState T)) (e : Expr T) (t : Node M) : Type 0 where
   pub value : (whole : List (Stream T)) (joins : List ℕ) (further : List Note) (at leaf : ℕ) → AreBegun hubs whole → StandAt joins leaf (new_joins hubs e) →
-      comes_out b m whole further t at ≡ (meant (environment m whole joins further) e).value at leaf
+      comes_out b m whole further t at ≡ (meant (environment_until_stop m whole joins further) e).value at leaf
   -- each leaf got all that its hub took in; with no leaf, no node reads a hub
   pub reads : IsTreeReadAt b (counts_of hubs) t
   pub alone : new_joins hubs e ≡ [] → IsTreeReadAt b [] t

@@ -1,5 +1,5 @@
 -- What ranges and plain operators mean as nodes.
-use Rattle.std.specs.Prelude.{⊤, false, None}
+use Rattle.std.specs.Prelude.{⊤, false, true, None}
 use Rattle.rsx_plain.specs.Node.{plain_allocates, plain_comes_out, plain_counted, plain_ended, plain_popped, plain_shown, plain_takes, plain_waiting, plain_wanted}
 use Rattle.rsx_plain.specs.declared.node.PlainNode.{PlainNode}
 use Rattle.rsx_sources.specs.Prelude.{Nothing, range_comes_out, range_pop_allocates, range_popped, range_shown, range_waiting}
@@ -23,6 +23,7 @@ range_machine = record {
   done = λ n i. false;
   counted = λ n taken sent. ⊤;
   wanted = λ n i a s. 0;
+  accepts = λ n a s. true;
   popped = range_popped;
   reads = λ n. None;
   rooms = λ n. false;
@@ -49,6 +50,7 @@ plain_machine = record {
   done = λ n i. false;
   counted = plain_counted;
   wanted = plain_wanted;
+  accepts = λ n a s. true;
   popped = plain_popped;
   reads = λ n. None;
   rooms = λ n. false;

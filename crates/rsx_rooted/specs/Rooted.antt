@@ -1,6 +1,6 @@
 -- A part: a tree with the edge from its root. What it stands for, which of its moves are enabled, and what they change.
 use Rattle.std.specs.Prelude.{◌≡◌, ℕ, ◌+◌, ◌-◌, ◌<◌, ◌≤◌, ◌^◌, Bool, true, false, ◌&&◌, nat_eq, if◌then◌else◌, List, [], ◌∷◌, ◌++◌, length, map, Option, Some, option_map, Result, Ok, Err}
-use Rattle.rsx_model.specs.Eval.{environment, eval}
+use Rattle.rsx_model.specs.Eval.{environment_until_stop, eval}
 use Rattle.rsx_model.specs.declared.expr.Expr.{Expr}
 use Rattle.rsx_sources.specs.Prelude.{Meaning, Allocates, notes_then, unchosen, Stream, signals_then, Note, Signal, front_of}
 use Rattle.rsx_sources.specs.declared.machine.Front.{Front}
@@ -20,9 +20,10 @@ use Rattle.rsx_rooted.specs.declared.rooted.Pumped.TheVariants.{Idle, Budget}
 
 -- ---- what a part stands for
 
--- the value of an expression over these hubs' values
+-- the value of an expression over these hubs' values, with nothing chosen behind the point where the rows of a combineLatest stop, as
+-- nodes choose; where there is one, it is the value from scratch (`value_until_stop` of `rsx_model`)
 abbrev pub evaluated : {T : Type 0} → Meaning T → List (Stream T) → List ℕ → Expr T → List Note → Option (Stream T)
-evaluated m hubs joins e chosen = eval (environment m hubs joins chosen) e
+evaluated m hubs joins e chosen = eval (environment_until_stop m hubs joins chosen) e
 
 -- a part stands for an expression, where `published` is what the hubs took in and handed to their readers, and the signals
 -- `output` went over the part's root edge

@@ -1,5 +1,5 @@
 -- What a line may go on with.
-use Rattle.std.specs.Prelude.{ℕ, Bool, true, false, nat_lt, List, ◌∷◌, ◌++◌}
+use Rattle.std.specs.Prelude.{ℕ, Bool, false, nat_lt, List, ◌∷◌, ◌++◌}
 use Rattle.rsx_script.specs.declared.words.LineRefusal.{LineRefusal}
 use Rattle.rsx_script.specs.declared.words.LineRefusal.TheVariants.{Syntax, UnknownName, TooLong, NoMemory}
 

@@ -4,6 +4,7 @@ pub mod Endings
 pub mod Heads
 pub mod Items
 pub mod Machine
+pub mod Offered
 pub mod Passed
 pub mod Popping
 pub mod Prelude

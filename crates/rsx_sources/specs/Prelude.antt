@@ -4,6 +4,7 @@ pub use Rattle.rsx_sources.specs.Endings.{ended_or, has_ending}
 pub use Rattle.rsx_sources.specs.Heads.{head_of}
 pub use Rattle.rsx_sources.specs.Items.{GivesItems, ItemsLeft, items_comes_out, items_popped, items_shown, items_waiting}
 pub use Rattle.rsx_sources.specs.Machine.{Incoming, Keeps, LetsGo, Records, TakesIn, front_of, in_front, in_front_at, incoming_of, quiet}
+pub use Rattle.rsx_sources.specs.Offered.{OffersWithin}
 pub use Rattle.rsx_sources.specs.Passed.{IsItemOut, IsPassed, IsPickDone, IsRowDone, IsStepDone, IsSteppedOut, IsTakenIn}
 pub use Rattle.rsx_sources.specs.Popping.{IsItemOutBy, IsPoppedBy, IsPoppedNoting, IsReady, IsRecordedBy}
 pub use Rattle.rsx_sources.specs.Range.{GivesRange, range_comes_out, range_pop_allocates, range_popped, range_shown, range_shows, range_waiting}

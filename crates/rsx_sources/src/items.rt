@@ -61,6 +61,7 @@ impl<T: Drop> Machine for ItemsNode<T> {
     ghost use Rattle.rsx_sources.specs.Steps.{IsNotTaken};
     ghost use Rattle.rsx_sources.specs.Items.{ItemsLeft, items_comes_out, items_waiting, items_shown, items_popped};
     ghost use Rattle.std.proofs.Common.{rules};
+    ghost use Rattle.std.proofs.lemmas.Bool.{true≢false};
 
     ghost comes_out = { items_comes_out };
 
@@ -89,6 +90,8 @@ impl<T: Drop> Machine for ItemsNode<T> {
     ghost counted = { λ n taken sent. ⊤ };
 
     ghost wanted = { λ n i a s. 0 };
+
+    ghost accepts = { λ n a s. true };
 
     ghost popped = { items_popped };
 
@@ -224,6 +227,11 @@ impl<T: Drop> Machine for ItemsNode<T> {
         0
     }
 
+    #[inline(always)]
+    fn accepts_demand(&self, asked: u64, sent: u64) -> bool {
+        true
+    }
+
     fn note(&self, alloc: Global) -> Result<Note, NoMemory> {
         Ok(Note::Nothing)
     }
@@ -264,4 +272,6 @@ impl<T: Drop> Machine for ItemsNode<T> {
     ghost ending_waits = { λ m n asked sent e none more. Prim.search rules };
 
     ghost hungry = { λ m n taken asked sent still counts none more within. Prim.search rules };
+
+    ghost asked_enough = { λ n a s e. absurd (true≢false e) };
 }

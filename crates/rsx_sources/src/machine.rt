@@ -104,6 +104,9 @@ pub trait Machine {
     /// What is to be asked of an input in all, where so much is asked of the node and was sent by it.
     ghost wanted: { Self → ℕ → ℕ → ℕ → ℕ };
 
+    /// Whether the node accepts more demand, where so much is asked of it and was sent by it.
+    ghost accepts: { Self → ℕ → ℕ → Bool };
+
     /// The second is the first without the signal that it offered.
     ghost popped: { Self → Signal Self.Item → Self → Type 0 };
 
@@ -130,6 +133,7 @@ pub trait Machine {
     ghost use Rattle.rsx_types.specs.Notes.{note_then, unchosen};
     ghost use Rattle.rsx_sources.specs.Counts.{CountsIn, CountsOut, CountsStep, CanStep, IsHungry, NeverSteps, AreWithin, ends_input};
     ghost use Rattle.rsx_sources.specs.Machine.{IsComposed, Keeps, TakesIn, Records, front_of, incoming_of};
+    ghost use Rattle.rsx_sources.specs.Offered.{OffersWithin};
     ghost use Rattle.rsx_sources.specs.Passed.{IsPassed, IsSteppedOut};
     ghost use Rattle.rsx_sources.specs.Popping.{IsItemOutBy, IsPoppedBy, IsRecordedBy};
     ghost use Rattle.rsx_sources.specs.Reading.{IsReadOn, IsResidualOf, takes_published, hub_of};
@@ -321,6 +325,11 @@ pub trait Machine {
     fn want(&self, input: u64, asked: u64, sent: u64) -> u64
         ensures { result ≡ wanted self.now input asked sent };
 
+    /// Whether the node accepts more demand, where `asked` is asked of it and it sent `sent` items. A node whose edge crosses to another
+    /// region doesn't once its ending stands in the queue of that edge, since no item comes behind the ending. Every other node does.
+    fn accepts_demand(&self, asked: u64, sent: u64) -> bool
+        ensures { result ≡ accepts self.now asked sent };
+
     /// What the node recorded.
     fn note(&self, alloc: Global) -> Result<Note, NoMemory>
         ensures { IfOk result (λ n. n ≡ recorded self.now) };
@@ -365,4 +374,7 @@ pub trait Machine {
     /// A node that offers nothing, and of which more is asked than it sent, can make a step, or wants more at an input, or
     /// waits for the hub that it reads.
     ghost hungry: { (m : Meaning Self.Item) (n : Self) (taken : List ℕ) (asked sent : ℕ) → ended n ≡ false → counted n taken sent → waiting m n ≡ None → sent < asked → AreWithin taken → IsHungry takes picks rows done wanted reads n taken asked sent };
+
+    /// A node that accepts no more demand was asked for enough: it offers a signal that may go as things stand.
+    ghost asked_enough: { (n : Self) (asked sent : ℕ) → accepts n asked sent ≡ false → OffersWithin (shown n) asked sent };
 }

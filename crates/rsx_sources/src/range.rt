@@ -68,6 +68,7 @@ impl<T: Drop> Machine for RangeNode<T> {
     ghost use Rattle.rsx_sources.specs.Range.{range_comes_out, range_waiting, range_shown, range_shows, range_popped, range_pop_allocates};
     ghost use Rattle.rsx_sources.specs.declared.range.RangeNode.{RangeNode};
     ghost use Rattle.std.proofs.Common.{rules};
+    ghost use Rattle.std.proofs.lemmas.Bool.{true≢false};
 
     ghost comes_out = { range_comes_out };
 
@@ -96,6 +97,8 @@ impl<T: Drop> Machine for RangeNode<T> {
     ghost counted = { λ n taken sent. ⊤ };
 
     ghost wanted = { λ n i a s. 0 };
+
+    ghost accepts = { λ n a s. true };
 
     ghost popped = { range_popped };
 
@@ -242,6 +245,11 @@ impl<T: Drop> Machine for RangeNode<T> {
         0
     }
 
+    #[inline(always)]
+    fn accepts_demand(&self, asked: u64, sent: u64) -> bool {
+        true
+    }
+
     fn note(&self, alloc: Global) -> Result<Note, NoMemory> {
         Ok(Note::Nothing)
     }
@@ -281,4 +289,6 @@ impl<T: Drop> Machine for RangeNode<T> {
     ghost ending_waits = { λ m n asked sent e none more. Prim.search rules };
 
     ghost hungry = { λ m n taken asked sent still counts none more within. Prim.search rules };
+
+    ghost asked_enough = { λ n a s e. absurd (true≢false e) };
 }

@@ -9,6 +9,7 @@ use Rattle.rsx_tree.proofs.Residuals.{tree_some}
 use Rattle.rsx_pipe.specs.Part.{IsPartResidual}
 use Rattle.rsx_pipe.specs.Tree.{comes_out, notes_of}
 use Rattle.rsx_model.specs.Check.{refusal}
+use Rattle.rsx_model.proofs.UntilStop.{until_stop_law}
 use Rattle.rsx_pipe.proofs.Parts.{values_then-again}
 use Rattle.rsx_pipe.proofs.Signals.{map_then-append, prefix_of_orderly}
 use Rattle.rsx_pipe.proofs.Trees.{notes_then-unchosen, unchosen_notes, unchosen_tree}
@@ -53,7 +54,8 @@ holds {M} {T} mc lw m taken waiting sub past h same =
           let V : List (Stream T) → Type 0 = λ w. option_map (signals_then past.received) (owed_from mc m w further sub) ≡ evaluated m w past (notes_then (notes_of mc sub.part.tree) further) in
           subst V (sym (values_then-again taken waiting more)) (live_value mc m taken sub past h (subst L (sym h.state) l) (values_then waiting more) further len);
       value = signals_then h.output there.left;
-      scratch = (subst R (sym (values_then-length taken waiting same)) h.admitted, (notes_count mc sub.part.tree ∙ h.shape, h.joined), there.value);
+      scratch = (subst R (sym (values_then-length taken waiting same)) h.admitted, (notes_count mc sub.part.tree ∙ h.shape, h.joined), until_stop_law m (values_then taken waiting) past.joins (notes_of mc sub.part.tree) past.expression (signals_then h.output there.left) there.value);
+      until_stop = there.value;
       owed = λ l. owed_now mc m taken waiting sub past h (subst L (sym h.state) l) ∙ there.value;
       whole = λ e.
           let ended : standing_of sub ≡ Ended = h.state ∙ e in

@@ -7,7 +7,7 @@ use Rattle.std.proofs.lemmas.List.{append-nil}
 use Rattle.std.proofs.lemmas.Bool.{both_ways, and_right, or_from}
 use Rattle.rsx_sources.specs.Prelude.{Meaning, Stream, Move, Ask, Send, Take, Pick, Row, Accept, Signal}
 use Rattle.rsx_tree.specs.declared.look.NodeMove.{NodeMove}
-use Rattle.rsx_tree.specs.declared.look.NodeMove.TheVariants.{Ask as NodeAsk, Pick as NodePick}
+use Rattle.rsx_tree.specs.declared.look.NodeMove.TheVariants.{Ask as NodeAsk}
 use Rattle.rsx_pipe.specs.Tree.{IsWithin}
 use Rattle.rsx_model.proofs.Unfold.{sound}
 use Rattle.rsx_model.specs.declared.check.TheConstants.{MOST_NODES}
@@ -46,7 +46,7 @@ served_live {M} {T} mc lw m published sub past q h live w more v read e =
     let room : has_room sub.queue ≡ true = ap has_room none in
     let small = (sound (length published) past.expression h.admitted).small in
     let few : length (all_edges sub.part) ≤ MOST_NODES = let k = h.shape in omega (arith, k, small) in
-    let d = delivered mc m (lw m).1 (lw m).0 (lw m).2 sub.part (has_room sub.queue) q.0 published past.expression past.joins h.output h.part (h.unclosed live) room few w more v read e in
+    let d = delivered mc m (lw m).1 (lw m).3 (lw m).0 (lw m).2 sub.part (has_room sub.queue) q.0 published past.expression past.joins h.output h.part (h.unclosed live) room few w more v read e in
     record {
       items = rw (all, ← h.asked) d.items;
       ending = λ less some. sym h.state ∙ by_state (standing_of sub) refl (λ u. h.part.ended (d.ending (rw h.asked less) some) (rw all at u));

@@ -1,5 +1,5 @@
 -- What the steps of the subscription table do to how a subscription stands.
-use Rattle.std.proofs.Common.{◌≡◌, ℕ, ◌+◌, ◌<◌, ℤ, pos, Bool, true, false, nat_lt, int_lt, unsigned_abs, if◌then◌else◌, List, [], ◌∷◌, length, None, Result, Ok, Err, refl, ap, sym, add-zero}
+use Rattle.std.proofs.Common.{◌≡◌, ℕ, ◌+◌, ◌<◌, ℤ, pos, Bool, true, false, nat_lt, int_lt, unsigned_abs, if◌then◌else◌, List, [], ◌∷◌, length, Result, Ok, Err, refl, ap, sym, add-zero}
 use Rattle.std.proofs.lemmas.Bool.{lt-ltb}
 use Rattle.rsx_demand.specs.Demand.{saturating_total}
 use Rattle.rsx_demand.specs.declared.Demand.{Demand}

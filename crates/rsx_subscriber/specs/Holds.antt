@@ -13,12 +13,15 @@ use Rattle.rsx_subscriber.specs.Stands.{owed_from, evaluated, values_then}
 -- the sentence for one subscriber
 pub record Holds {M T : Type 0} (mc : Machine M T) (m : Meaning T) (published : List (Stream T)) (sub : Subscription M T) (past : Past T) : Type 0 where
   -- live: what it received, followed by what it is still owed, is its expression evaluated from scratch over what was
-  -- published, whatever is published after it and whatever is still chosen
+  -- published, whatever is published after it and whatever is still chosen; behind the point where the rows of a combineLatest
+  -- stop nothing is chosen any more
   pub live : IsLive past.state → (more : List (Stream T)) (further : List Note) → length further ≡ length (notes_of mc sub.part.tree) →
       option_map (signals_then past.received) (owed_from mc m (values_then published more) further sub) ≡ evaluated m (values_then published more) past (notes_then (notes_of mc sub.part.tree) further)
   -- under what its nodes recorded, the slow evaluator answers a value over what was published
   pub value : Stream T
   pub scratch : IsScratch (environment m published past.joins (notes_of mc sub.part.tree)) past.expression (Ok value)
+  -- and nothing was chosen behind such a point
+  pub until_stop : evaluated m published past (notes_of mc sub.part.tree) ≡ Some value
   -- live: that is what it received, followed by what it is still owed where nothing more is published and nothing more chosen
   pub owed : IsLive past.state → option_map (signals_then past.received) (owed_from mc m published (map unchosen (notes_of mc sub.part.tree)) sub) ≡ Some value
   -- it got its ending: that is all that it received

@@ -1,7 +1,7 @@
 -- What files of the crates above import most, in one place.
 pub use Rattle.rsx_model.specs.Answer.{IsScratch, name_codes}
 pub use Rattle.rsx_model.specs.Check.{first_fault, first_of, own_fault, refusal, unless}
-pub use Rattle.rsx_model.specs.Eval.{environment}
+pub use Rattle.rsx_model.specs.Eval.{environment, environment_until_stop}
 pub use Rattle.rsx_model.specs.Region.{region_of}
 pub use Rattle.rsx_model.specs.Shape.{children, sum_of}
 pub use Rattle.rsx_model.specs.declared.check.BadExpr.{BadExpr}

@@ -22,7 +22,8 @@ use Rattle.rsx_subscriber.specs.Standing.{standing, live_in, delivers, input_of}
 use Rattle.rsx_subscriber.specs.Moves.{node_move, node_of}
 use Rattle.rsx_subscriber.specs.Past.{Past, IsLive, items_in, IsUnended, IsOrderly, IsPrefixOf}
 
--- the expression of a subscriber, evaluated from scratch over the hubs' values, under its joins and these notes
+-- the expression of a subscriber, evaluated from scratch over the hubs' values, under its joins and these notes, with nothing chosen
+-- behind the point where the rows of a combineLatest stop
 abbrev pub evaluated : {T : Type 0} → Meaning T → List (Stream T) → Past T → List Note → Option (Stream T)
 evaluated m hubs past notes = Part.evaluated m hubs past.joins past.expression notes
 

@@ -23,7 +23,7 @@ use Rattle.std.proofs.lemmas.Option.{same_Some, none-some}
 use Rattle.rsx_types.proofs.Lists.{same_head, same_tail}
 use Rattle.rsx_tck.proofs.Traces.{number_text}
 use Rattle.rsx_tck.proofs.Sound.{number_is, signed_is, cause_of, counted_of, function_of, version_of, first_of}
-use Rattle.rsx_tck.proofs.Continuing.{never, same_wrong, push_wrong, pull_wrong}
+use Rattle.rsx_tck.proofs.Continuing.{never, push_wrong, pull_wrong}
 use Rattle.rsx_tck.proofs.Parts.{AllSolid, word_missing, word_empty, word_first, ends_wrong_at}
 
 -- ---- steps

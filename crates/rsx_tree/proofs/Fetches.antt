@@ -36,6 +36,7 @@ sent_over b m r i e n r' e' n' x out taken alike can carried asked sent = record
   offered = out.waited;
   popped = out.popped;
   note = out.note;
+  noting = out.noting;
   ready = out.ready;
   noted = out.noted;
   gone = out.value;

@@ -1,15 +1,15 @@
 -- What an idle tree with balanced counts offers.
-use Rattle.std.proofs.Common.{◌≡◌, inl, inr, ℕ, ◌+◌, ◌-◌, ◌<◌, ◌≤◌, ◌^◌, Bool, true, false, ◌&&◌, nat_eq, nat_le, refl, ap, sym, ◌∙◌, arith, Some, None}
-use Rattle.std.proofs.lemmas.Bool.{le-leb, lt-leb, cases_lt, lt-ltb}
+use Rattle.std.proofs.Common.{◌≡◌, inl, inr, ℕ, ◌+◌, ◌-◌, ◌<◌, ◌≤◌, ◌^◌, Bool, true, false, ◌&&◌, nat_eq, nat_le, nat_lt, refl, ap, sym, subst, ◌∙◌, arith, Option, Some, None, option_map}
+use Rattle.std.proofs.lemmas.Bool.{and_cases, both_ways, le-leb, lt-leb, cases_lt, lt-ltb}
 use Rattle.rsx_types.proofs.Numbers.{not_zero}
-use Rattle.rsx_sources.specs.Prelude.{Meaning, CanStep}
+use Rattle.rsx_sources.specs.Prelude.{Meaning, CanStep, OffersWithin, front_of}
 use Rattle.rsx_sources.specs.declared.machine.Front.{Front}
 use Rattle.rsx_sources.specs.declared.machine.Front.TheVariants.{Item, Completion, Failure}
 use Rattle.rsx_sources.specs.declared.machine.Machine.{Ghosts as Machine}
 use Rattle.rsx_tree.specs.declared.edge.Edge.{Edge}
 use Rattle.rsx_tree.specs.declared.inputs.Inputs.{Inputs, End, More'}
-use Rattle.rsx_tree.specs.Edges.{EdgeView, is_live, can_pass}
-use Rattle.rsx_tree.specs.Inputs.{size, place}
+use Rattle.rsx_tree.specs.Edges.{EdgeView, can_ask_for, is_live, can_pass}
+use Rattle.rsx_tree.specs.Inputs.{can_ask_over, can_go, can_send_over, size, place}
 use Rattle.rsx_tree.specs.Changed.{Hold}
 use Rattle.rsx_tree.specs.Driven.{IsRestAt, IsRowIdle}
 use Rattle.rsx_tree.specs.Stepped.{IsStill, over, station}
@@ -89,3 +89,36 @@ pub can_pass_live : (e : EdgeView) (f : Front) → is_live e.state ≡ true → 
 can_pass_live e Item v l = rw (v, lt-ltb e.sent e.asked l) refl
 can_pass_live e Completion v l = v
 can_pass_live e (Failure c) v l = v
+
+-- ---- an edge over which fewer items went than its receiver wants
+
+-- the law of a node that accepts no more demand: what it offers may go
+abbrev pub IsAskedEnough : {M T : Type 0} → Machine M T → Meaning T → Type 0
+IsAskedEnough {M} b m = (n : M) (asked sent : ℕ) → b.accepts n asked sent ≡ false → OffersWithin (option_map front_of (b.waiting m n)) asked sent
+
+-- so it is of a node that shows what waits
+pub asked_enough : {M T : Type 0} (b : Machine M T) (m : Meaning T) → ((n : M) → b.shown n ≡ option_map front_of (b.waiting m n)) → ((n : M) (asked sent : ℕ) → b.accepts n asked sent ≡ false → OffersWithin (b.shown n) asked sent) → IsAskedEnough b m
+asked_enough b m shows enough n asked sent refuses = subst (λ f. OffersWithin f asked sent) (shows n) (enough n asked sent refuses)
+
+goes : (takes : Front → Bool) (e : EdgeView) (o : Option Front) → ((f : Front) → takes f ≡ true) → is_live e.state ≡ true → OffersWithin o e.asked e.sent → can_go takes e o ≡ true
+goes takes e None all live h = absurd h
+goes takes e (Some f) all live h = ap (λ c. c && can_pass e f) (all f) ∙ passes f h
+  where
+    passes : (f : Front) → OffersWithin (Some f) e.asked e.sent → can_pass e f ≡ true
+    passes Item l = can_pass_live e Item live l
+    passes Completion l = live
+    passes (Failure c) l = live
+
+-- A live edge over which fewer items went than its receiver wants, which takes all that comes, was asked for more than went, where
+-- neither an Ask nor a Send is enabled. An Ask may be refused by the sender; then that offers what may go.
+pub asked_more : {M T : Type 0} (b : Machine M T) (m : Meaning T) → IsAskedEnough b m → (r : M) (i asked sent : ℕ) (e : EdgeView) (n : M) → ((f : Front) → b.takes r i f ≡ true) → is_live e.state ≡ true → can_ask_over b r i asked sent e n ≡ false → can_send_over b m r i e n ≡ false → e.sent < b.wanted r i asked sent → e.sent < e.asked
+asked_more b m enough r i asked sent e n all live ask send wants = elim (and_cases (can_ask_for e want) (b.accepts n e.asked e.sent) ask) [
+  | inl has ↦ elim (cases_lt e.asked want) [
+    | inl less ↦ absurd (both_ways (can_ask_for e want) has (ap (λ l. l && nat_lt e.asked want) live ∙ lt-ltb e.asked want less))
+    | inr most ↦ omega (arith, most, wants)
+  ]
+  | inr refuses ↦ absurd (both_ways (can_send_over b m r i e n) send (goes (b.takes r i) e (option_map front_of (b.waiting m n)) all live (enough n e.asked e.sent refuses)))
+]
+  where
+    want : ℕ
+    want = b.wanted r i asked sent

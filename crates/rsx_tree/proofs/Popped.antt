@@ -1,8 +1,8 @@
 -- A signal that goes out of a node, which records it or doesn't: what that says of a row over which it goes, and of the tree whose root it
 -- leaves.
 use Rattle.std.proofs.Common.{◌≡◌, ◌⊎◌, inl, inr, ℕ, ◌+◌, ◌-◌, ◌≤◌, Bool, true, false, ◌&&◌, nat_eq, nat_le, if◌then◌else◌, ◌∷◌, refl, ap, sym, ◌∙◌, subst, Option, Some, None, option_map, slice_get}
-use Rattle.std.proofs.lemmas.Bool.{and_parts, both_ways}
-use Rattle.rsx_sources.specs.Prelude.{Meaning, Note, Signal, CountsOut, ends_input, IsItemOut, IsItemOutBy, IsPoppedBy, IsReady, IsRecordedBy, IsSteppedOut, LetsGo, Next, note_then, notes_then, front_of}
+use Rattle.std.proofs.lemmas.Bool.{and_parts}
+use Rattle.rsx_sources.specs.Prelude.{Meaning, Note, Signal, CountsOut, ends_input, IsItemOut, IsItemOutBy, IsPoppedBy, IsReady, IsRecordedBy, IsSteppedOut, LetsGo, Next, Complete, Error, note_then, notes_then, front_of}
 use Rattle.rsx_sources.specs.declared.machine.Front.{Front}
 use Rattle.rsx_sources.specs.declared.machine.Front.TheVariants.{Item, Completion, Failure}
 use Rattle.rsx_sources.specs.declared.machine.Machine.{Ghosts as Machine}
@@ -10,7 +10,7 @@ use Rattle.rsx_tree.specs.declared.edge.Edge.{Edge}
 use Rattle.rsx_tree.specs.declared.inputs.Inputs.{Inputs, End, More'}
 use Rattle.rsx_tree.specs.declared.node.Node.{Node}
 use Rattle.rsx_tree.specs.Allocates.{IsNodeAlike}
-use Rattle.rsx_tree.specs.Changed.{Hold, IsChanged, IsReadyBy, IsSentOver}
+use Rattle.rsx_tree.specs.Changed.{Hold, IsChanged, IsReadyBy, IsSentOver, noting_of}
 use Rattle.rsx_tree.specs.Chosen.{IsChosen}
 use Rattle.rsx_tree.specs.Edges.{EdgeView, can_pass, edge_view, is_live}
 use Rattle.rsx_tree.specs.Fetched.{IsOut, IsStepOut}
@@ -142,7 +142,7 @@ pub record IsRootOut {M T : Type 0} (b : Machine M T) (m : Meaning T) (n : M) (s
   pub waited : b.waiting m n ≡ Some s
   pub popped : b.popped n s n'
   pub note : Option Note
-  pub ending : ends_input s ≡ true → note ≡ None
+  pub noting : (note ≡ noting_of (b.popping n) s) ⊎ (note ≡ None)
   pub ready : M
   pub noted : IsReadyBy b m note n ready
   pub gone : LetsGo (b.comes_out m) ready s n'
@@ -161,7 +161,7 @@ let_go b m n n' t s h counts alike =
       offered = h.waited;
       popped = (h.popped, refl);
       note = h.note;
-      ending = h.ending;
+      noting = h.noting;
       ready = h.ready;
       noted = h.noted;
       lets_go = h.gone;
@@ -177,36 +177,49 @@ let_go b m n n' t s h counts alike =
       alike = popped_alike b n n' t alike;
     }
 
--- what the node's own call says
-pub root_out : {M T : Type 0} (b : Machine M T) (m : Meaning T) (n n' : M) (o : Option Note) (s : Signal T) → IsPoppedBy (b.comes_out m) b.popped b.recorded b.ended o (b.waiting m n) n (Some s) n' → IsRecordedBy o (b.recorded n) (b.recorded n') → IsRootOut b m n s n'
-root_out b m n n' None s h recorded = record { waited = h.0; popped = h.1; note = None; ending = λ e. refl; ready = n; noted = refl; gone = h.2; recorded = recorded }
-root_out b m n n' (Some k) s h recorded = record { waited = h.waited; popped = h.popped_out; note = Some k; ending = λ e. absurd (both_ways (ends_input s) h.item e); ready = h.ready; noted = h.noted; gone = h.value; recorded = h.notes }
+-- what goes with an item is what the node says
+noting_item : {T : Type 0} (said : Option Note) (s : Signal T) → ends_input s ≡ false → said ≡ noting_of said s
+noting_item said (Next x) h = refl
+noting_item said Complete h = cc
+noting_item said (Error c) h = cc
+
+-- and nothing goes with an ending
+noting_ending : {T : Type 0} (said : Option Note) (s : Signal T) → ends_input s ≡ true → noting_of said s ≡ None
+noting_ending said (Next x) h = cc
+noting_ending said Complete h = refl
+noting_ending said (Error c) h = refl
+
+-- what the node's own call says, where it says that `o` goes with an item
+pub root_out : {M T : Type 0} (b : Machine M T) (m : Meaning T) (n n' : M) (o : Option Note) (s : Signal T) → o ≡ b.popping n → IsPoppedBy (b.comes_out m) b.popped b.recorded b.ended o (b.waiting m n) n (Some s) n' → IsRecordedBy o (b.recorded n) (b.recorded n') → IsRootOut b m n s n'
+root_out b m n n' None s said h recorded = record { waited = h.0; popped = h.1; note = None; noting = inr refl; ready = n; noted = refl; gone = h.2; recorded = recorded }
+root_out b m n n' (Some k) s said h recorded = record { waited = h.waited; popped = h.popped_out; note = Some k; noting = inl (noting_item (Some k) s h.item ∙ ap (λ p. noting_of p s) said); ready = h.ready; noted = h.noted; gone = h.value; recorded = h.notes }
 
 -- the same, where what came out is this signal
-pub given_out : {M T : Type 0} (b : Machine M T) (m : Meaning T) (n n' : M) (k : Option Note) (o : Option (Signal T)) (s : Signal T) → o ≡ Some s → IsPoppedBy (b.comes_out m) b.popped b.recorded b.ended k (b.waiting m n) n o n' → IsRecordedBy k (b.recorded n) (b.recorded n') → CountsOut b.counted b.ended b.done n o n' →
+pub given_out : {M T : Type 0} (b : Machine M T) (m : Meaning T) (n n' : M) (k : Option Note) (o : Option (Signal T)) (s : Signal T) → k ≡ b.popping n → o ≡ Some s → IsPoppedBy (b.comes_out m) b.popped b.recorded b.ended k (b.waiting m n) n o n' → IsRecordedBy k (b.recorded n) (b.recorded n') → CountsOut b.counted b.ended b.done n o n' →
     IsRootOut b m n s n' × CountsOut b.counted b.ended b.done n (Some s) n'
-given_out {T = T} b m n n' k o s is h recorded counts =
+given_out {T = T} b m n n' k o s said is h recorded counts =
     let P : Option (Signal T) → Type 0 = λ x. IsPoppedBy (b.comes_out m) b.popped b.recorded b.ended k (b.waiting m n) n x n' in
     let C : Option (Signal T) → Type 0 = λ x. CountsOut b.counted b.ended b.done n x n' in
-    (root_out b m n n' k s (subst P is h) recorded, subst C is counts)
+    (root_out b m n n' k s said (subst P is h) recorded, subst C is counts)
 
 -- what the root let go came out of the tree
-pub popped_tree : {M T : Type 0} (b : Machine M T) (m : Meaning T) (n n' : M) (t : Inputs M) (k : Option Note) (o : Option (Signal T)) → IsPoppedBy (b.comes_out m) b.popped b.recorded b.ended k (b.waiting m n) n o n' → IsRecordedBy k (b.recorded n) (b.recorded n') → CountsOut b.counted b.ended b.done n o n' → IsNodeAlike b n n' →
+pub popped_tree : {M T : Type 0} (b : Machine M T) (m : Meaning T) (n n' : M) (t : Inputs M) (k : Option Note) (o : Option (Signal T)) → k ≡ b.popping n → IsPoppedBy (b.comes_out m) b.popped b.recorded b.ended k (b.waiting m n) n o n' → IsRecordedBy k (b.recorded n) (b.recorded n') → CountsOut b.counted b.ended b.done n o n' → IsNodeAlike b n n' →
     IsPopped b m (node n t) o (node n' t)
-popped_tree b m n n' t k (Some s) h recorded counts alike = let_go b m n n' t s (root_out b m n n' k s h recorded) counts alike
-popped_tree b m n n' t None None h recorded counts alike = (h.0, ap (λ x. node x t) h.1)
-popped_tree b m n n' t (Some k) None h recorded counts alike = (h.0, ap (λ x. node x t) h.1)
+popped_tree b m n n' t k (Some s) said h recorded counts alike = let_go b m n n' t s (root_out b m n n' k s said h recorded) counts alike
+popped_tree b m n n' t None None said h recorded counts alike = (h.0, ap (λ x. node x t) h.1)
+popped_tree b m n n' t (Some k) None said h recorded counts alike = (h.0, ap (λ x. node x t) h.1)
+
+-- an item out of a node that records nothing by it
+pub unrecorded_out : {M T : Type 0} (b : Machine M T) (m : Meaning T) (n n' : M) (x : T) → IsItemOut (b.comes_out m) (b.waiting m) b.popped b.recorded b.counted b.ended b.done n x n' → IsNodeAlike b n n' → IsOut b m n x n'
+unrecorded_out b m n n' x h alike = record { waited = h.waited; popped = h.popped_out; note = None; noting = inr refl; ready = n; noted = refl; value = h.value; notes = h.notes; counts = h.counts; alike = alike }
 
 -- an item out of a node, as the node's own call says, and as it goes out of a tree
-pub item_out_of : {M T : Type 0} (b : Machine M T) (m : Meaning T) (n n' : M) (o : Option Note) (x : T) → IsItemOutBy (b.comes_out m) (b.waiting m) b.popped b.recorded b.counted b.ended b.done o n x n' → IsNodeAlike b n n' → IsOut b m n x n'
-item_out_of b m n n' None x h alike = record { waited = h.waited; popped = h.popped_out; note = None; ready = n; noted = refl; value = h.value; notes = h.notes; counts = h.counts; alike = alike }
-item_out_of b m n n' (Some k) x h alike = let p = h.0 in record { waited = p.waited; popped = p.popped_out; note = Some k; ready = p.ready; noted = p.noted; value = p.value; notes = p.notes; counts = h.1; alike = alike }
-
-pub unrecorded_out : {M T : Type 0} (b : Machine M T) (m : Meaning T) (n n' : M) (x : T) → IsItemOut (b.comes_out m) (b.waiting m) b.popped b.recorded b.counted b.ended b.done n x n' → IsNodeAlike b n n' → IsOut b m n x n'
-unrecorded_out b m n n' x h alike = item_out_of b m n n' None x h alike
+pub item_out_of : {M T : Type 0} (b : Machine M T) (m : Meaning T) (n n' : M) (o : Option Note) (x : T) → o ≡ b.popping n → IsItemOutBy (b.comes_out m) (b.waiting m) b.popped b.recorded b.counted b.ended b.done o n x n' → IsNodeAlike b n n' → IsOut b m n x n'
+item_out_of b m n n' None x said h alike = unrecorded_out b m n n' x h alike
+item_out_of b m n n' (Some k) x said h alike = let p = h.0 in record { waited = p.waited; popped = p.popped_out; note = Some k; noting = inl said; ready = p.ready; noted = p.noted; value = p.value; notes = p.notes; counts = h.1; alike = alike }
 
 pub item_out : {M T : Type 0} (b : Machine M T) (m : Meaning T) (n n' : M) (t : Inputs M) (x : T) → IsOut b m n x n' → IsLetGo b m (node n t) (Next x) (node n' t)
-item_out b m n n' t x h = let_go b m n n' t (Next x) (record { waited = h.waited; popped = h.popped; note = h.note; ending = λ e. absurd (both_ways false refl e); ready = h.ready; noted = h.noted; gone = h.value; recorded = h.notes }) h.counts h.alike
+item_out b m n n' t x h = let_go b m n n' t (Next x) (record { waited = h.waited; popped = h.popped; note = h.note; noting = h.noting; ready = h.ready; noted = h.noted; gone = h.value; recorded = h.notes }) h.counts h.alike
 
 -- a step of a node, and then the item out of it at once, over a live edge
 pub stepped_out : {M T : Type 0} (b : Machine M T) (m : Meaning T) (e : Edge) (n n' : M) (below below' : Inputs M) (x : T) → ((mid : M) → b.popped mid (Next x) n' → IsNodeAlike b mid n') → is_live e.state ≡ true →
@@ -233,7 +246,8 @@ stepped_out {M} {T} b m e n n' below below' x alike live h whole shut =
 
 pub ending_gone : {M T : Type 0} (b : Machine M T) (m : Meaning T) (old : Node M) (s : Signal T) (new : Node M) → IsLetGo b m old s new → ends_input s ≡ true → LetsGo (b.comes_out m) old.machine s new.machine × (b.recorded new.machine ≡ b.recorded old.machine)
 ending_gone {M} b m old s new h e =
-    let same : h.ready ≡ old.machine = by h.note (h.ending e) h.noted in
+    let none : h.note ≡ None = elim h.noting [ inl said ↦ said ∙ noting_ending (b.popping old.machine) s e | inr none ↦ none ] in
+    let same : h.ready ≡ old.machine = by h.note none h.noted in
     let P : M → Type 0 = λ k. LetsGo (b.comes_out m) k s new.machine in
     (subst P same h.lets_go, h.recorded ∙ ap b.recorded same)
   where

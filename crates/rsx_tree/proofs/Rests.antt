@@ -1,7 +1,7 @@
 -- What still comes in at the inputs of an idle row: nothing where its receiver waits for more.
-use Rattle.std.proofs.Common.{◌≡◌, inl, inr, ℕ, zero, suc, ◌+◌, ◌<◌, ◌≤◌, ◌^◌, Bool, true, false, ◌&&◌, nat_lt, List, [], ◌∷◌, refl, ap, sym, ◌∙◌, subst, arith, Option, Some, None, option_map, slice_get}
+use Rattle.std.proofs.Common.{◌≡◌, inl, inr, ℕ, zero, suc, ◌+◌, ◌<◌, ◌≤◌, ◌^◌, Bool, true, false, ◌&&◌, List, [], ◌∷◌, refl, ap, sym, ◌∙◌, subst, arith, Option, Some, None, option_map, slice_get}
 use Rattle.std.proofs.lemmas.Option.{same_Some}
-use Rattle.std.proofs.lemmas.Bool.{cases_lt, both_ways, lt-ltb}
+use Rattle.std.proofs.lemmas.Bool.{both_ways}
 use Rattle.rsx_types.proofs.Options.{none_from_no_some}
 use Rattle.rsx_sources.specs.Prelude.{Meaning, unchosen, Stream, ended_by, Note, Open, Signal, AreWithin, CanStep, front_of, incoming_of}
 use Rattle.rsx_sources.specs.declared.machine.Front.{Front}
@@ -15,7 +15,7 @@ use Rattle.rsx_tree.specs.Balance.{sent_over, IsBalanced, IsRowBalanced, IsRowWi
 use Rattle.rsx_tree.specs.Driven.{IsIdle, IsRowIdle}
 use Rattle.rsx_tree.specs.Tree.{IsUnchosen, comes_out, offers}
 use Rattle.rsx_tree.proofs.Drives.{send_anywhere}
-use Rattle.rsx_tree.proofs.Idles.{IsNodeStill, Waits, can_pass_live, idle_below, idle_beside, live_still}
+use Rattle.rsx_tree.proofs.Idles.{IsAskedEnough, IsNodeStill, Waits, asked_more, can_pass_live, idle_below, idle_beside, live_still}
 use Rattle.rsx_tree.proofs.Residuals.{Settles, comes_some}
 use Rattle.rsx_tree.specs.Rests.{HaveReadAll, NothingBehind, NothingComes, Rests, TreeHasReadAll, coming}
 use Rattle.rsx_sources.proofs.Incomings.{hubs_in}
@@ -32,11 +32,6 @@ no_step b n asked sent still can = elim can [
 within_row : {M : Type 0} (t : Inputs M) → IsRowWithin t → AreWithin (sent_over t)
 within_row End w = tt
 within_row (More' e n p below q beside) w = (w.0, within_row beside w.2)
-
--- a live edge over which fewer items went than its receiver wants, and no Ask is enabled, was asked for more than went
-asked_more : (a k c : ℕ) (v : Bool) → v ≡ true → v && nat_lt a k ≡ false → c < k → c < a
-asked_more a k c true e f g = elim (cases_lt a k) [ inl x ↦ absurd (both_ways (nat_lt a k) f (lt-ltb a k x)) | inr y ↦ omega (arith, y, g) ]
-asked_more a k c false e f g = cc
 
 -- the receiver of an idle row takes what its first input offers, so that offers nothing
 first_silent : {M T : Type 0} (b : Machine M T) (m : Meaning T) (r : M) (i : ℕ) (e : Edge) (n : M) (s : Signal T) → ((f : Front) → b.takes r i f ≡ true) → is_live e.state ≡ true → e.demand.sent < e.demand.asked → b.waiting m n ≡ Some s → can_send_over b m r i (edge_view e) n ≡ false → ⊥
@@ -63,12 +58,12 @@ none_comes b r asked sent t hubs us h j c at open_still takes wants =
     in_order hubs us j ∙ h j c at (subst D zero_plus open_still) (subst F zero_plus takes) (subst W zero_plus wants)
 
 -- of an idle row nothing comes in where its receiver waits for more: what is below it waits too, down to the hubs
-pub row_rests : {M T : Type 0} (b : Machine M T) (m : Meaning T) → Waits b m → Settles b m → Rests b m → (hubs : List (Stream T)) (further : List Note) (r : M) (i asked sent : ℕ) (t : Inputs M) (at : ℕ) → i + size t ≤ 2 ^ 64 → IsRowIdle b m r i asked sent t → IsRowBalanced b r i t → IsRowWithin t →
+pub row_rests : {M T : Type 0} (b : Machine M T) (m : Meaning T) → Waits b m → IsAskedEnough b m → Settles b m → Rests b m → (hubs : List (Stream T)) (further : List Note) (r : M) (i asked sent : ℕ) (t : Inputs M) (at : ℕ) → i + size t ≤ 2 ^ 64 → IsRowIdle b m r i asked sent t → IsRowBalanced b r i t → IsRowWithin t →
     HaveReadAll b m hubs t → IsRowUnchosen b further t at → (vs : List (Stream T)) × (comes_in b m hubs further t at ≡ Some vs) × NoneComes b r i asked sent t vs
-row_rests b m waits settles rests hubs further r i asked sent End at small idle balanced within read u = ([], refl, λ j c got. cc)
-row_rests {M} {T} b m waits settles rests hubs further r i asked sent (More' e n p below q beside) at small idle balanced within read u =
-    let side = row_rests b m waits settles rests hubs further r (i + 1) asked sent beside (at + 1 + size below) (omega (arith, small)) (idle_beside b m r i asked sent e n p below q beside small idle) balanced.1 within.2 read.1 u.2 in
-    let first = over_first (λ w rd. row_rests b m waits settles rests hubs further n 0 e.demand.asked e.demand.sent below (at + 1) (omega (arith, small)) (idle_below b m r i asked sent e n p below q beside small idle) w within.1 rd u.1) in
+row_rests b m waits enough settles rests hubs further r i asked sent End at small idle balanced within read u = ([], refl, λ j c got. cc)
+row_rests {M} {T} b m waits enough settles rests hubs further r i asked sent (More' e n p below q beside) at small idle balanced within read u =
+    let side = row_rests b m waits enough settles rests hubs further r (i + 1) asked sent beside (at + 1 + size below) (omega (arith, small)) (idle_beside b m r i asked sent e n p below q beside small idle) balanced.1 within.2 read.1 u.2 in
+    let first = over_first (λ w rd. row_rests b m waits enough settles rests hubs further n 0 e.demand.asked e.demand.sent below (at + 1) (omega (arith, small)) (idle_below b m r i asked sent e n p below q beside small idle) w within.1 rd u.1) in
     (first.0 ∷ side.0, rw (first.1, side.1) refl, λ j. by_place side.0 first.0 first.2 side.2 j)
   where
     none : (k : ℕ) → k ≡ k + 0
@@ -108,7 +103,7 @@ row_rests {M} {T} b m waits settles rests hubs further r i asked sent (More' e n
             | inr o ↦
                 let live : is_live e.state ≡ true = ap is_live o.0 in
                 let here = idle 0 (omega (arith, small)) in
-                let more : e.demand.sent < e.demand.asked = asked_more e.demand.asked (b.wanted r i asked sent) e.demand.sent (is_live e.state) live here.0 w in
+                let more : e.demand.sent < e.demand.asked = asked_more b m enough r i asked sent (edge_view e) n f live here.0 here.1 w in
                 let nothing : b.waiting m n ≡ None = none_from_no_some (b.waiting m n) (λ s x. first_silent b m r i e n s f live more x here.1) in
                 let still = live_still b e n live here.2 in
                 elim o.1 [
@@ -133,11 +128,11 @@ row_rests {M} {T} b m waits settles rests hubs further r i asked sent (More' e n
         f (subst D (sym (none i)) d) (subst F (sym (none i)) takes) (subst W (sym (none i)) (subst C (sym (same_Some e.demand.sent c got)) wants))
 
 -- nothing comes out of an idle tree of which more is asked than it sent, and that offers nothing
-pub tree_rests : {M T : Type 0} (b : Machine M T) (m : Meaning T) → Waits b m → Settles b m → Rests b m → (hubs : List (Stream T)) (further : List Note) (t : Node M) (asked sent : ℕ) → IsIdle b m t asked sent → IsNodeStill b t.machine asked sent → IsBalanced b t sent → sent < asked → size t.inputs ≤ 2 ^ 64 → IsWithin t →
+pub tree_rests : {M T : Type 0} (b : Machine M T) (m : Meaning T) → Waits b m → IsAskedEnough b m → Settles b m → Rests b m → (hubs : List (Stream T)) (further : List Note) (t : Node M) (asked sent : ℕ) → IsIdle b m t asked sent → IsNodeStill b t.machine asked sent → IsBalanced b t sent → sent < asked → size t.inputs ≤ 2 ^ 64 → IsWithin t →
     TreeHasReadAll b m hubs t asked sent → IsUnchosen b further t 0 → offers b m t ≡ None → comes_out b m hubs further t 0 ≡ Some (ended_by Open)
-tree_rests {M} {T} b m waits settles rests hubs further t asked sent idle still balanced more few within read u nothing = elim balanced [
+tree_rests {M} {T} b m waits enough settles rests hubs further t asked sent idle still balanced more few within read u nothing = elim balanced [
   | inl over ↦ absurd (no_step b t.machine asked sent still (waits t.machine asked sent over nothing more))
-  | inr k ↦ resting k.0 k.1 (row_rests b m waits settles rests hubs further t.machine 0 asked sent t.inputs 1 small row_idle k.2 within read.1 u.1)
+  | inr k ↦ resting k.0 k.1 (row_rests b m waits enough settles rests hubs further t.machine 0 asked sent t.inputs 1 small row_idle k.2 within read.1 u.1)
 ]
   where
     small : 0 + size t.inputs ≤ 2 ^ 64

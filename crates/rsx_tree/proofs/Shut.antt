@@ -9,8 +9,8 @@ use Rattle.rsx_tree.specs.declared.edge.EdgeState.{EdgeState}
 use Rattle.rsx_tree.specs.declared.edge.EdgeState.TheVariants.{Live, Ended as EdgeEnded, Closed}
 use Rattle.rsx_tree.specs.declared.inputs.Inputs.{Inputs, End, More'}
 use Rattle.rsx_tree.specs.declared.node.Node.{Node}
-use Rattle.rsx_tree.specs.Edges.{EdgeView, is_live, can_pass}
-use Rattle.rsx_tree.specs.Inputs.{Place, place, size, edges, can_go, can_ask_in, can_send_in, tests}
+use Rattle.rsx_tree.specs.Edges.{EdgeView, can_ask_for, is_live, can_pass}
+use Rattle.rsx_tree.specs.Inputs.{Place, place, size, edges, can_go, can_ask_in, can_send_in, tests, wanted_at}
 use Rattle.rsx_tree.specs.Tree.{NoneLive, IsAllClosed, can_ask, can_send}
 use Rattle.rsx_tree.specs.Stepped.{Station, station, station_of, can_pick_in, can_row_in, IsStepped, IsPickedHere, IsRowMadeHere}
 use Rattle.rsx_tree.proofs.Noted.{step_noted, pick_notes, row_notes}
@@ -63,7 +63,9 @@ go_live takes e (Some f) h = pass_live e f (and_parts (takes f) (can_pass e f) h
 
 ask_live : {M T : Type 0} (b : Machine M T) (o : Option (Place M)) → can_ask_in b o ≡ true → state_in o ≡ Live
 ask_live b None h = cc
-ask_live b (Some p) h = live_true p.edge.state (and_parts (is_live p.edge.state) _ h).0
+ask_live b (Some p) h =
+    let wants = (and_parts (can_ask_for p.edge (wanted_at b p)) _ h).0 in
+    live_true p.edge.state (and_parts (is_live p.edge.state) _ wants).0
 
 send_live : {M T : Type 0} (b : Machine M T) (m : Meaning T) (o : Option (Place M)) → can_send_in b m o ≡ true → state_in o ≡ Live
 send_live b m None h = cc

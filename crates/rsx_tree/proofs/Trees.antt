@@ -11,8 +11,8 @@ use Rattle.rsx_tree.specs.declared.inputs.Inputs.{Inputs}
 use Rattle.rsx_tree.specs.declared.inputs.Inputs.TheViews.{More}
 use Rattle.rsx_tree.proofs.Changes.{Rest}
 use Rattle.rsx_tree.specs.declared.node.Node.{Node}
-use Rattle.rsx_tree.specs.Edges.{EdgeView, can_ask_for, closed_if, closed_view, closed_state}
-use Rattle.rsx_tree.specs.Inputs.{Place, place, comes_in, through, out_of, notes_of, edges as edges_in, is_own, closed_row, closed_row_if, can_ask_in, can_send_in, can_send_over, sent_edges}
+use Rattle.rsx_tree.specs.Edges.{EdgeView, closed_if, closed_view, closed_state}
+use Rattle.rsx_tree.specs.Inputs.{Place, place, comes_in, through, out_of, notes_of, edges as edges_in, is_own, closed_row, closed_row_if, can_ask_in, can_ask_over, can_send_in, can_send_over, sent_edges}
 use Rattle.rsx_tree.specs.Changed.{IsChanged, IsAskedOver, IsSentOver}
 use Rattle.rsx_tree.specs.Tree.{IsKept, IsSentAt, IsAskedAt, IsJoined, NoneLive, ended_in}
 use Rattle.rsx_tree.proofs.Rows.{IsGoneOver, then_same, passed_on, notes_sent, recorded_sent, notes_closed, notes_closed_if, comes_in_closed, comes_in_closed_if}
@@ -42,7 +42,7 @@ kept_asked b m r asked sent at t t' h =
     record { value = λ hubs further pos. ap (λ o. out_of b m hubs r o (slice_get further pos)) (k.value m hubs further (pos + 1)); notes = ap (λ l. b.recorded r ∷ l) k.notes }
 
 can_ask_found : {M T : Type 0} (b : Machine M T) (o : Option (Place M)) → Found (IsAskedOver b) o → can_ask_in b o ≡ true
-can_ask_found b o f = ap (can_ask_in b) f.is ∙ (ap (λ e. can_ask_for e (b.wanted f.there.receiver f.there.input f.there.asked f.there.sent)) f.edge_is ∙ f.made.can)
+can_ask_found b o f = ap (can_ask_in b) f.is ∙ (ap (λ e. can_ask_over b f.there.receiver f.there.input f.there.asked f.there.sent e f.there.sender) f.edge_is ∙ f.made.can)
 
 pub can_asked : {M T : Type 0} (b : Machine M T) (r : M) (asked sent at : ℕ) (t t' : Inputs M) → IsChanged (IsAskedOver b) (λ n. false) r 0 asked sent t at r t' → can_ask_in b (place r 0 asked sent t at) ≡ true
 can_asked b r asked sent at t t' h = can_ask_found b _ (found (IsAskedOver b) (λ n. false) r 0 asked sent t at r t' h)

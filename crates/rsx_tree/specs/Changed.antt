@@ -1,14 +1,14 @@
 -- How a move changes a row of inputs: one edge and the nodes at its ends, and nothing else.
 use Rattle.std.specs.Prelude.{◌≡◌, ◌⊎◌, Box, ℕ, ◌+◌, ◌-◌, ◌<◌, ◌≤◌, Bool, true, false, ◌&&◌, List, ◌++◌, length, Option, Some, None, option_map}
 use Rattle.std.specs.declared.alloc.Global.{Global}
-use Rattle.rsx_sources.specs.Prelude.{Meaning, Stream, Note, Signal, CountsIn, CountsOut, IsReady, LetsGo, TakesIn, front_of, IsNotMade}
+use Rattle.rsx_sources.specs.Prelude.{Meaning, Stream, Note, Signal, Next, Complete, Error, CountsIn, CountsOut, IsReady, LetsGo, TakesIn, front_of, IsNotMade}
 use Rattle.rsx_sources.specs.declared.machine.Machine.{Ghosts as Machine}
 use Rattle.rsx_sources.specs.declared.machine.NotMade.{NotMade}
 use Rattle.rsx_tree.specs.declared.edge.Edge.{Edge}
 use Rattle.rsx_tree.specs.Allocates.{IsNodeAlike}
 use Rattle.rsx_tree.specs.declared.inputs.Inputs.{Inputs, End, More'}
-use Rattle.rsx_tree.specs.Edges.{edge_view, asked_up_to, passed, can_ask_for}
-use Rattle.rsx_tree.specs.Inputs.{size, is_own, place, closed_row_if, can_send_in, can_send_over, comes_in, through}
+use Rattle.rsx_tree.specs.Edges.{edge_view, asked_up_to, passed}
+use Rattle.rsx_tree.specs.Inputs.{size, is_own, place, closed_row_if, can_ask_over, can_send_in, can_send_over, comes_in, through}
 
 -- a place in memory, without what it holds
 abbrev pub Hold : Type 0
@@ -20,7 +20,7 @@ Change M = M → ℕ → ℕ → ℕ → Edge → M → M → Edge → M → Typ
 
 -- an Ask: what was asked rose to what the receiver wants, and nothing else changed
 pub record IsAskedOver {M T : Type 0} (b : Machine M T) (r : M) (i asked sent : ℕ) (e : Edge) (n r' : M) (e' : Edge) (n' : M) : Type 0 where
-  pub can : can_ask_for (edge_view e) (b.wanted r i asked sent) ≡ true
+  pub can : can_ask_over b r i asked sent (edge_view e) n ≡ true
   pub edge : edge_view e' ≡ asked_up_to (b.wanted r i asked sent) (edge_view e)
   pub receiver : r' ≡ r
   pub sender : n' ≡ n
@@ -30,6 +30,12 @@ abbrev pub IsReadyBy : {M T : Type 0} → Machine M T → Meaning T → Option N
 IsReadyBy b m None n ready = ready ≡ n
 IsReadyBy b m (Some k) n ready = IsReady (b.comes_out m) b.recorded b.ended n k ready
 
+-- the note that goes with a signal, where this one goes with an item: none goes with an ending
+abbrev pub noting_of : {T : Type 0} → Option Note → Signal T → Option Note
+noting_of said (Next x) = said
+noting_of said Complete = None
+noting_of said (Error c) = None
+
 -- a Send: the signal that the sender offered came out of it, which recorded it where there is a note, went over the edge, and came into
 -- the receiver
 pub record IsSentOver {M T : Type 0} (b : Machine M T) (m : Meaning T) (r : M) (i asked sent : ℕ) (e : Edge) (n r' : M) (e' : Edge) (n' : M) : Type 0 where
@@ -38,6 +44,8 @@ pub record IsSentOver {M T : Type 0} (b : Machine M T) (m : Meaning T) (r : M) (
   pub offered : b.waiting m n ≡ Some signal
   pub popped : b.popped n signal n'
   pub note : Option Note
+  -- what was recorded is what the sender said; that nothing was is left open, for an item that goes through the sender in one go
+  pub noting : (note ≡ noting_of (b.popping n) signal) ⊎ (note ≡ None)
   pub ready : M
   pub noted : IsReadyBy b m note n ready
   pub gone : LetsGo (b.comes_out m) ready signal n'
@@ -50,9 +58,9 @@ pub record IsSentOver {M T : Type 0} (b : Machine M T) (m : Meaning T) (r : M) (
   pub alike_in : IsNodeAlike b r r'
   pub alike_out : IsNodeAlike b n n'
 
--- an Ask of the receiver over an edge, whatever the sender is
-abbrev pub IsAskedBy : {M T : Type 0} → Machine M T → M → ℕ → ℕ → ℕ → Edge → Edge → Type 0
-IsAskedBy {M} b r i asked sent e e' = (n : M) → IsAskedOver b r i asked sent e n r e' n
+-- an Ask of the receiver over the edge of this sender, which changes neither of them
+abbrev pub IsAskedBy : {M T : Type 0} → Machine M T → M → ℕ → ℕ → ℕ → M → Edge → Edge → Type 0
+IsAskedBy b r i asked sent n e e' = IsAskedOver b r i asked sent e n r e' n
 
 -- a Send over an edge, whatever is asked of the receiver and was sent by it
 abbrev pub IsCarried : {M T : Type 0} → Machine M T → Meaning T → M → ℕ → Edge → M → M → Edge → M → Type 0

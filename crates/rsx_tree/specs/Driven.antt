@@ -6,8 +6,8 @@ use Rattle.rsx_tree.specs.declared.edge.Edge.{Edge}
 use Rattle.rsx_tree.specs.declared.inputs.Inputs.{Inputs, More'}
 use Rattle.rsx_tree.specs.declared.inputs.Pass.{Pass}
 use Rattle.rsx_tree.specs.declared.node.Node.{Node}
-use Rattle.rsx_tree.specs.Edges.{edge_view, can_ask_for}
-use Rattle.rsx_tree.specs.Inputs.{place, is_own, can_ask_in, can_send_in, can_send_over}
+use Rattle.rsx_tree.specs.Edges.{edge_view}
+use Rattle.rsx_tree.specs.Inputs.{place, is_own, can_ask_in, can_ask_over, can_send_in, can_send_over}
 use Rattle.rsx_tree.specs.Allocates.{IsAlike}
 use Rattle.rsx_tree.specs.Balance.{IsBalanced}
 use Rattle.rsx_tree.specs.Changed.{Hold, IsAskedIn, IsSentIn}
@@ -81,7 +81,7 @@ IsPass b m budget i asked sent r t result r' t' =
 
 -- over this edge neither an Ask nor a Send is enabled, nor a step of its sender
 pub record IsRestOver {M T : Type 0} (b : Machine M T) (m : Meaning T) (r : M) (i asked sent : ℕ) (e : Edge) (n : M) : Type 0 where
-  pub ask : can_ask_for (edge_view e) (b.wanted r i asked sent) ≡ false
+  pub ask : can_ask_over b r i asked sent (edge_view e) n ≡ false
   pub send : can_send_over b m r i (edge_view e) n ≡ false
   pub still : IsStill b (Some (over e n))
 

@@ -23,6 +23,8 @@ pub record IsOut {M T : Type 0} (b : Machine M T) (m : Meaning T) (n : M) (x : T
   pub waited : b.waiting m n ≡ Some (Next x)
   pub popped : b.popped n (Next x) n'
   pub note : Option Note
+  -- what was recorded is what the node said; that nothing was is left open, for an item that goes through the node in one go
+  pub noting : (note ≡ b.popping n) ⊎ (note ≡ None)
   pub ready : M
   pub noted : IsReadyBy b m note n ready
   pub value : LetsGo (b.comes_out m) ready (Next x) n'

@@ -111,9 +111,12 @@ with_edge_at at edge (More' e n p below q beside) =
 abbrev pub wanted_at : {M T : Type 0} → Machine M T → Place M → ℕ
 wanted_at b p = b.wanted p.receiver p.input p.asked p.sent
 
--- the receiver wants more than it asked for
+-- the receiver wants more than it asked for, and the sender accepts more demand
+abbrev pub can_ask_over : {M T : Type 0} → Machine M T → M → ℕ → ℕ → ℕ → EdgeView → M → Bool
+can_ask_over b r i asked sent e n = can_ask_for e (b.wanted r i asked sent) && b.accepts n e.asked e.sent
+
 abbrev pub can_ask_at : {M T : Type 0} → Machine M T → Place M → Bool
-can_ask_at b p = can_ask_for p.edge (wanted_at b p)
+can_ask_at b p = can_ask_over b p.receiver p.input p.asked p.sent p.edge p.sender
 
 abbrev pub can_ask_in : {M T : Type 0} → Machine M T → Option (Place M) → Bool
 can_ask_in b o = tests (can_ask_at b) o

@@ -7,8 +7,8 @@ use Rattle.rsx_tree.specs.declared.inputs.Inputs.{Inputs}
 use Rattle.rsx_tree.specs.declared.look.NodeMove.{NodeMove}
 use Rattle.rsx_tree.specs.declared.look.NodeMove.TheVariants.{Ask, Send, Pick, Row}
 use Rattle.rsx_tree.specs.declared.node.Node.{Node}
-use Rattle.rsx_tree.specs.Edges.{edge_view, can_ask_for}
-use Rattle.rsx_tree.specs.Inputs.{size, place, can_ask_in, can_send_in, can_send_over}
+use Rattle.rsx_tree.specs.Edges.{edge_view}
+use Rattle.rsx_tree.specs.Inputs.{size, place, can_ask_in, can_ask_over, can_send_in, can_send_over}
 use Rattle.rsx_tree.specs.Stepped.{Station, station, over, can_pick_in, can_row_in}
 use Rattle.rsx_tree.specs.Tree.{can_ask, can_send}
 
@@ -21,7 +21,7 @@ IsStepEnabled b s at (Row n) = (n ≡ at) × (can_row_in b (Some s) ≡ true)
 
 -- a move over this edge, or of its sender, that is enabled; the sender has the number `at`
 abbrev pub IsEnabledOver : {M T : Type 0} → Machine M T → Meaning T → M → ℕ → ℕ → ℕ → Edge → M → ℕ → NodeMove → Type 0
-IsEnabledOver b m r i asked sent e n at (Ask k) = (k ≡ at) × (can_ask_for (edge_view e) (b.wanted r i asked sent) ≡ true)
+IsEnabledOver b m r i asked sent e n at (Ask k) = (k ≡ at) × (can_ask_over b r i asked sent (edge_view e) n ≡ true)
 IsEnabledOver b m r i asked sent e n at (Send k) = (k ≡ at) × (can_send_over b m r i (edge_view e) n ≡ true)
 IsEnabledOver b m r i asked sent e n at (Pick k input) = IsStepEnabled b (over e n) at (Pick k input)
 IsEnabledOver b m r i asked sent e n at (Row k) = IsStepEnabled b (over e n) at (Row k)

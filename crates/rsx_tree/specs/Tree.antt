@@ -1,6 +1,6 @@
 -- One tree of nodes: what still comes out of it, what it recorded, and its moves.
-use Rattle.std.specs.Prelude.{◌≡◌, ℕ, ◌+◌, Bool, true, false, ◌&&◌, nat_eq, nat_le, if◌then◌else◌, ◌-◌, List, [], ◌∷◌, length, Option, Some, None, option_map, slice_get}
-use Rattle.rsx_sources.specs.Prelude.{Meaning, Allocates, CountsOut, ends_input, notes_then, unchosen, LetsGo, Stream, signal_then, Note, Signal, front_of}
+use Rattle.std.specs.Prelude.{◌≡◌, ◌⊎◌, ℕ, ◌+◌, Bool, false, ◌&&◌, nat_eq, nat_le, if◌then◌else◌, ◌-◌, List, [], ◌∷◌, length, Option, Some, None, option_map, slice_get}
+use Rattle.rsx_sources.specs.Prelude.{Meaning, Allocates, CountsOut, notes_then, unchosen, LetsGo, Stream, signal_then, Note, Signal, front_of}
 use Rattle.rsx_sources.specs.declared.machine.Front.{Front}
 use Rattle.rsx_sources.specs.declared.machine.Machine.{Ghosts as Machine}
 use Rattle.rsx_tree.specs.declared.edge.Edge.{Edge}
@@ -9,7 +9,7 @@ use Rattle.rsx_tree.specs.declared.inputs.Inputs.{Inputs, End, More'}
 use Rattle.rsx_tree.specs.declared.node.Node.{Node}
 use Rattle.rsx_tree.specs.Allocates.{IsAlike, IsNodeAlike}
 use Rattle.rsx_tree.specs.Balance.{IsBalanced, IsBalancedAfter}
-use Rattle.rsx_tree.specs.Changed.{Hold, IsChanged, IsReadyBy, IsSentOver}
+use Rattle.rsx_tree.specs.Changed.{Hold, IsChanged, IsReadyBy, IsSentOver, noting_of}
 use Rattle.rsx_tree.specs.Edges.{EdgeView, asked_up_to, changed_at, closed_if}
 use Rattle.rsx_tree.specs.Inputs.{Place, place, size, is_own, closed_row_if, comes_in, out_of, notes_of, edges as edges_in, can_ask_in, can_send_in, wanted_at, send_allocates_in, sent_edges, with_edge_at, IsUnchosen as IsUnchosenIn}
 
@@ -59,8 +59,9 @@ pub record IsLetGo {M T : Type 0} (b : Machine M T) (m : Meaning T) (old : Node 
   -- the signal came out of the root, which recorded it where there is a note, whatever comes in below it, and the root's calls may
   -- allocate as before
   pub note : Option Note
-  -- an ending isn't recorded
-  pub ending : ends_input s ≡ true → note ≡ None
+  -- what was recorded is what the root said, and of an ending nothing; that nothing was is left open also of an item, for one that goes
+  -- through the root in one go
+  pub noting : (note ≡ noting_of (b.popping old.machine) s) ⊎ (note ≡ None)
   pub ready : M
   pub noted : IsReadyBy b m note old.machine ready
   pub lets_go : LetsGo (b.comes_out m) ready s new.machine

@@ -67,7 +67,7 @@ impl<M: Machine> Inputs<M> {
                         if *left == 0 {
                             return None;
                         }
-                        match ask_over(receiver, input, asked, sent, edge) {
+                        match ask_over(receiver, input, asked, sent, edge, sender) {
                             Ok(()) => *left -= 1,
                             Err(_) => return None,
                         }

@@ -3,8 +3,8 @@
 ghost use Rattle.std.specs.Prelude.{◌≡◌, OnOk, OnErr, IfOk, IsOk, IfErr, true, false};
 ghost use Rattle.rsx_tree.specs.Allocates.{either_allocates};
 ghost use Rattle.rsx_sources.specs.Steps.{IsNotMade};
-ghost use Rattle.rsx_tree.specs.Edges.{edge_view, can_ask_for};
-ghost use Rattle.rsx_tree.specs.Inputs.{can_send_over, send_over_allocates, size};
+ghost use Rattle.rsx_tree.specs.Edges.{edge_view};
+ghost use Rattle.rsx_tree.specs.Inputs.{can_ask_over, can_send_over, send_over_allocates, size};
 ghost use Rattle.rsx_tree.specs.Changed.{IsAskedBy, IsCarried};
 ghost use Rattle.rsx_tree.specs.Driven.{IsMadeOver, IsRestOver};
 ghost use Rattle.rsx_tree.specs.Refusals.{IsNotEnabled, OnlyNotEnabled};
@@ -121,7 +121,7 @@ impl<M: Machine> Inputs<M> {
             Inputs::End => Err(NotMade::NotEnabled),
             Inputs::More(edge, machine, below, beside) => {
                 if at == 0 {
-                    return match ask_over(receiver, input, asked, sent, edge) {
+                    return match ask_over(receiver, input, asked, sent, edge, machine) {
                         Ok(()) => Ok(()),
                         Err(why) => Err(why),
                     };
@@ -434,7 +434,7 @@ fn advance_over<M: Machine, O: Ops<Item = M::Item>>(
         Err(NotMade::NoMemory) => return Err(NoMemory),
         Err(NotMade::NotEnabled) => {}
     }
-    match ask_over(receiver, input, asked, sent, edge) {
+    match ask_over(receiver, input, asked, sent, edge, sender) {
         Ok(()) => return Ok(Advance::Made),
         Err(_) => {}
     }
@@ -445,7 +445,8 @@ fn advance_over<M: Machine, O: Ops<Item = M::Item>>(
     }
 }
 
-/// Raises what is asked of an edge to what its receiver wants.
+/// Raises what is asked of an edge to what its receiver wants, where the sender accepts more demand. It is asked only where the receiver
+/// wants more.
 #[inline(always)]
 pub(crate) fn ask_over<M: Machine>(
     receiver: &M,
@@ -453,13 +454,18 @@ pub(crate) fn ask_over<M: Machine>(
     asked: u64,
     sent: u64,
     edge: &mut Edge,
+    sender: &M,
 ) -> Result<(), NotMade>
-    ensures made { OnOk result (IsAskedBy M.Machine receiver.now input asked sent edge.old edge.new) }
-    ensures err { IfErr result (IsNotEnabled (can_ask_for (edge_view edge.old) (M.wanted receiver.now input asked sent))) }
+    ensures made { OnOk result (IsAskedBy M.Machine receiver.now input asked sent sender.now edge.old edge.new) }
+    ensures err { IfErr result (IsNotEnabled (
+        can_ask_over M.Machine receiver.now input asked sent (edge_view edge.old) sender.now)) }
     ensures same { OnErr result (edge.new ≡ edge.old) }
 {
     let want = receiver.want(input, asked, sent);
     if !edge.can_ask(want) {
+        return Err(NotMade::NotEnabled);
+    }
+    if !sender.accepts_demand(edge.demand.asked, edge.demand.sent) {
         return Err(NotMade::NotEnabled);
     }
     edge.ask_up_to(want);

@@ -4,7 +4,7 @@ ghost use Rattle.std.specs.Prelude.{◌≡◌, IfSome, IfNone, Some, true};
 ghost use Rattle.rsx_types.specs.Meaning.{Meaning};
 ghost use Rattle.rsx_tree.specs.Driven.{IsRestOver};
 ghost use Rattle.rsx_tree.specs.Edges.{edge_view};
-ghost use Rattle.rsx_tree.specs.Inputs.{can_send_over};
+ghost use Rattle.rsx_tree.specs.Inputs.{can_ask_over, can_send_over};
 ghost use Rattle.rsx_tree.specs.Look.{IsEnabledOver, IsStepEnabled};
 ghost use Rattle.rsx_tree.specs.Stepped.{IsStill, over};
 
@@ -43,7 +43,7 @@ impl<M: Machine> Inputs<M> {
             Inputs::End => false,
             Inputs::More(edge, machine, below, beside) => {
                 if at == 0 {
-                    return edge.can_ask(receiver.want(input, asked, sent));
+                    return can_ask_sender(receiver, input, asked, sent, edge, machine);
                 }
                 let inside = below.count_up_to(at);
                 if at > inside {
@@ -288,6 +288,23 @@ impl<M: Machine> Node<M> {
     }
 }
 
+/// Whether the receiver wants more than it asked for, and the sender accepts more demand.
+#[inline]
+fn can_ask_sender<M: Machine>(
+    receiver: &M,
+    input: u64,
+    asked: u64,
+    sent: u64,
+    edge: &Edge,
+    sender: &M,
+) -> bool
+    ensures { result ≡ can_ask_over M.Machine receiver.now input asked sent (edge_view edge.now) sender.now }
+{
+    let demand = &edge.demand;
+    edge.can_ask(receiver.want(input, asked, sent))
+        && sender.accepts_demand(demand.asked, demand.sent)
+}
+
 /// Whether the sender offers a signal that can go over the edge, and the receiver can take it.
 #[inline]
 fn can_send_signal<M: Machine>(receiver: &M, input: u64, edge: &Edge, sender: &M) -> bool
@@ -311,7 +328,7 @@ fn rests_over<M: Machine>(
 ) -> bool
     ensures { (m : Meaning M.Item) → result ≡ true → IsRestOver M.Machine m receiver.now input asked sent edge.now sender.now }
 {
-    if edge.can_ask(receiver.want(input, asked, sent)) {
+    if can_ask_sender(receiver, input, asked, sent, edge, sender) {
         return false;
     }
     if can_send_signal(receiver, input, edge, sender) {
@@ -336,8 +353,7 @@ fn first_over<M: Machine>(
     ensures some { (m : Meaning M.Item) → IfSome result (IsEnabledOver M.Machine m receiver.now input asked sent edge.now sender.now at) }
     ensures none { (m : Meaning M.Item) → IfNone result (IsRestOver M.Machine m receiver.now input asked sent edge.now sender.now) }
 {
-    let want = receiver.want(input, asked, sent);
-    if edge.can_ask(want) {
+    if can_ask_sender(receiver, input, asked, sent, edge, sender) {
         return Some(NodeMove::Ask(at));
     }
     if can_send_signal(receiver, input, edge, sender) {

@@ -5,24 +5,22 @@ use Rattle.rsx_types.proofs.Options.{one_in_front}
 use Rattle.rsx_types.specs.declared.signal.Cause.{Cause}
 use Rattle.rsx_types.specs.declared.signal.Ending.TheVariants.{Open, Done, Failed}
 use Rattle.rsx_types.specs.declared.signal.Signal.TheVariants.{Next, Complete, Error}
-use Rattle.rsx_types.specs.Stream.{Stream, item_then}
+use Rattle.rsx_types.specs.Stream.{Stream, ended_by, item_then, items_then}
 use Rattle.rsx_values.specs.Pick.{Taken}
-use Rattle.rsx_values.specs.Latest.{all_latest, row_first, stops, behind_first, unless_chosen, walk}
-use Rattle.rsx_values.specs.Evaluated.{items_first}
+use Rattle.rsx_values.specs.Latest.{all_latest, row_first, stops, walk}
 
 -- ---- rows
 
-items_item : {T : Type 0} (xs : List T) (x : T) (o : Option (Stream T)) → items_first (xs ++ x ∷ []) o ≡ items_first xs (option_map (item_then x) o)
-items_item xs x None = refl
-items_item {T} xs x (Some v) = let at : List T → Option (Stream T) = λ l. Some (record { items = l; ending = v.ending }) in ap at (append_assoc xs (x ∷ []) v.items)
+items_item : {T : Type 0} (xs : List T) (x : T) (v : Stream T) → items_then (xs ++ x ∷ []) v ≡ items_then xs (item_then x v)
+items_item {T} xs x v = let at : List T → Stream T = λ l. record { items = l; ending = v.ending } in ap at (append_assoc xs (x ∷ []) v.items)
 
-pub row_pushed : {T : Type 0} (row : List T → T) (o : Option (List T)) (xs rows new : List T) (y : T) → Some xs ≡ o → y ≡ row xs → new ≡ rows ++ y ∷ [] → (v : Option (Stream T)) →
-    items_first new v ≡ items_first rows (row_first row o v)
+pub row_pushed : {T : Type 0} (row : List T → T) (o : Option (List T)) (xs rows new : List T) (y : T) → Some xs ≡ o → y ≡ row xs → new ≡ rows ++ y ∷ [] → (v : Stream T) →
+    items_then new v ≡ items_then rows (row_first row o v)
 row_pushed row o xs rows new y some is more v =
-    ap (λ l. items_first l v) more ∙ items_item rows y v ∙ ap (λ z. items_first rows (option_map (item_then z) v)) is ∙ ap (λ p. items_first rows (row_first row p v)) some
+    ap (λ l. items_then l v) more ∙ items_item rows y v ∙ ap (λ z. items_then rows (item_then z v)) is ∙ ap (λ p. items_then rows (row_first row p v)) some
 
-pub no_row : {T : Type 0} (row : List T → T) (o : Option (List T)) (rows : List T) → None ≡ o → (v : Option (Stream T)) → items_first rows v ≡ items_first rows (row_first row o v)
-no_row row o rows none v = ap (λ p. items_first rows (row_first row p v)) none
+pub no_row : {T : Type 0} (row : List T → T) (o : Option (List T)) (rows : List T) → None ≡ o → (v : Stream T) → items_then rows v ≡ items_then rows (row_first row o v)
+no_row row o rows none v = ap (λ p. items_then rows (row_first row p v)) none
 
 -- ---- copies of the latest items
 
@@ -43,18 +41,20 @@ copied_all os i xs le = at_drop_all (copied_then xs) os i le ∙ ap (λ l. Some 
 
 -- ---- one signal
 
-pub walked_end : {T : Type 0} (row : List T → T) (latest : List (Option T)) (left : ℕ) (cs : List ℕ) (rows : List T) → items_first rows (walk row latest left cs []) ≡ Some (record { items = rows; ending = if nat_eq left 0 then Done else Open })
-walked_end {T} row latest left cs rows = let at : List T → Option (Stream T) = λ l. Some (record { items = l; ending = if nat_eq left 0 then Done else Open }) in ap at (append-nil rows)
+pub walked_end : {T : Type 0} (row : List T → T) (latest : List (Option T)) (left : ℕ) (rows : List T) → items_then rows (walk row latest left []) ≡ record { items = rows; ending = if nat_eq left 0 then Done else Open }
+walked_end {T} row latest left rows = let at : List T → Stream T = λ l. record { items = l; ending = if nat_eq left 0 then Done else Open } in ap at (append-nil rows)
 
-pub walked_failure : {T : Type 0} (row : List T → T) (latest : List (Option T)) (left n : ℕ) (cs : List ℕ) (c : Cause) (ts : List (Taken T)) (rows : List T) → items_first rows (walk row latest left cs ((n, Error c) ∷ ts)) ≡ Some (record { items = rows; ending = Failed c })
-walked_failure {T} row latest left n cs c ts rows = let at : List T → Option (Stream T) = λ l. Some (record { items = l; ending = Failed c }) in ap at (append-nil rows)
+pub walked_failure : {T : Type 0} (row : List T → T) (latest : List (Option T)) (left n : ℕ) (c : Cause) (ts : List (Taken T)) (rows : List T) → items_then rows (walk row latest left ((n, Error c) ∷ ts)) ≡ record { items = rows; ending = Failed c }
+walked_failure {T} row latest left n c ts rows = let at : List T → Stream T = λ l. record { items = l; ending = Failed c } in ap at (append-nil rows)
 
-pub walked_stop : {T : Type 0} (row : List T → T) (latest : List (Option T)) (left n : ℕ) (cs : List ℕ) (ts : List (Taken T)) → stops latest n left ≡ true → walk row latest left cs ((n, Complete) ∷ ts) ≡ unless_chosen (behind_first cs)
-walked_stop row latest left n cs ts s = rw s refl
+pub walked_stop : {T : Type 0} (row : List T → T) (latest : List (Option T)) (left n : ℕ) (ts : List (Taken T)) (rows : List T) → stops latest n left ≡ true → items_then rows (walk row latest left ((n, Complete) ∷ ts)) ≡ record { items = rows; ending = Done }
+walked_stop {T} row latest left n ts rows s =
+    let at : List T → Stream T = λ l. record { items = l; ending = Done } in
+    ap (λ b. items_then rows (if b then ended_by Done else walk row latest (left - 1) ts)) s ∙ ap at (append-nil rows)
 
-pub walked_completion : {T : Type 0} (row : List T → T) (latest : List (Option T)) (left n : ℕ) (cs : List ℕ) (ts : List (Taken T)) → stops latest n left ≡ false → walk row latest left cs ((n, Complete) ∷ ts) ≡ walk row latest (left - 1) (behind_first cs) ts
-walked_completion row latest left n cs ts s = rw s refl
+pub walked_completion : {T : Type 0} (row : List T → T) (latest : List (Option T)) (left n : ℕ) (ts : List (Taken T)) → stops latest n left ≡ false → walk row latest left ((n, Complete) ∷ ts) ≡ walk row latest (left - 1) ts
+walked_completion row latest left n ts s = rw s refl
 
-pub walked_item : {T : Type 0} (row : List T → T) (latest : List (Option T)) (left n : ℕ) (cs : List ℕ) (x : T) (ts : List (Taken T)) →
-    walk row latest left cs ((n, Next x) ∷ ts) ≡ row_first row (all_latest (slice_set latest n (Some x))) (walk row (slice_set latest n (Some x)) left (behind_first cs) ts)
-walked_item row latest left n cs x ts = refl
+pub walked_item : {T : Type 0} (row : List T → T) (latest : List (Option T)) (left n : ℕ) (x : T) (ts : List (Taken T)) →
+    walk row latest left ((n, Next x) ∷ ts) ≡ row_first row (all_latest (slice_set latest n (Some x))) (walk row (slice_set latest n (Some x)) left ts)
+walked_item row latest left n x ts = refl

@@ -1,5 +1,5 @@
 -- Rows of the latest items of several inputs.
-use Rattle.std.specs.Prelude.{ℕ, ◌-◌, Bool, true, false, nat_eq, nat_le, ◌||◌, if◌then◌else◌, List, [], ◌∷◌, length, slice_get, slice_set, Option, Some, None, option_map, option_and_then}
+use Rattle.std.specs.Prelude.{ℕ, ◌-◌, Bool, true, false, nat_eq, nat_le, ◌||◌, if◌then◌else◌, List, [], ◌∷◌, length, slice_get, slice_set, Option, Some, None, option_map}
 use Rattle.rsx_types.specs.declared.signal.Ending.TheVariants.{Open, Done, Failed}
 use Rattle.rsx_types.specs.declared.signal.Signal.TheVariants.{Next, Complete, Error}
 use Rattle.rsx_types.specs.Stream.{Stream, ended_by, item_then}
@@ -12,9 +12,9 @@ all_latest (None ∷ os) = None
 all_latest (Some x ∷ os) = option_map (λ xs. x ∷ xs) (all_latest os)
 
 -- a row of these items, if there is one, and then what comes
-abbrev pub row_first : {T : Type 0} → (List T → T) → Option (List T) → Option (Stream T) → Option (Stream T)
-row_first row None o = o
-row_first row (Some xs) o = option_map (item_then (row xs)) o
+abbrev pub row_first : {T : Type 0} → (List T → T) → Option (List T) → Stream T → Stream T
+row_first row None v = v
+row_first row (Some xs) v = item_then (row xs) v
 
 -- whether an input had no item
 abbrev pub is_itemless : {A : Type 0} → Option (Option A) → Bool
@@ -26,29 +26,19 @@ is_itemless (Some (Some x)) = false
 abbrev pub stops : {A : Type 0} → List (Option A) → ℕ → ℕ → Bool
 stops latest n left = is_itemless (slice_get latest n) || nat_le left 1
 
--- the choices behind the first
-abbrev pub behind_first : {A : Type 0} → List A → List A
-behind_first [] = []
-behind_first (c ∷ cs) = cs
-
--- where the rows stop, nothing may be chosen any more
-abbrev pub unless_chosen : {T : Type 0} → List ℕ → Option (Stream T)
-unless_chosen [] = Some (ended_by Done)
-unless_chosen (c ∷ cs) = None
-
--- the rows over the taken signals, of which the first were chosen so: each input's latest item is kept, and a row stands at
--- each item once every input has had one
-abbrev pub walk : {T : Type 0} → (List T → T) → List (Option T) → ℕ → List ℕ → List (Taken T) → Option (Stream T)
-walk row latest left cs [] = Some (ended_by (if nat_eq left 0 then Done else Open))
-walk row latest left cs ((n, Next x) ∷ ts) =
+-- the rows over the taken signals: each input's latest item is kept, and a row stands at each item once every input has had one. They
+-- stop where all inputs are done, where one is without any item, and at a failure, whatever was taken behind that.
+abbrev pub walk : {T : Type 0} → (List T → T) → List (Option T) → ℕ → List (Taken T) → Stream T
+walk row latest left [] = ended_by (if nat_eq left 0 then Done else Open)
+walk row latest left ((n, Next x) ∷ ts) =
     let now = slice_set latest n (Some x) in
-    row_first row (all_latest now) (walk row now left (behind_first cs) ts)
-walk row latest left cs ((n, Complete) ∷ ts) = if stops latest n left then unless_chosen (behind_first cs) else walk row latest (left - 1) (behind_first cs) ts
-walk row latest left cs ((n, Error c) ∷ ts) = Some (ended_by (Failed c))
+    row_first row (all_latest now) (walk row now left ts)
+walk row latest left ((n, Complete) ∷ ts) = if stops latest n left then ended_by Done else walk row latest (left - 1) ts
+walk row latest left ((n, Error c) ∷ ts) = ended_by (Failed c)
 
 -- the rows of numbered inputs, of which these were the latest items; nothing where the choices don't fit
 abbrev pub combine : {T : Type 0} → (List T → T) → List (Option T) → List ℕ → List (InputLeft T) → Option (Stream T)
-combine row latest cs is = option_and_then (walk row latest (length is) cs) (pick cs is)
+combine row latest cs is = option_map (walk row latest (length is)) (pick cs is)
 
 -- no input has had an item
 abbrev pub none_yet : {T : Type 0} → List (Stream T) → List (Option T)

@@ -2,7 +2,6 @@
 pub mod Concat
 pub mod Delayed
 pub mod Eager
-pub mod Evaluated
 pub mod Flat
 pub mod Group
 pub mod Lanes
@@ -13,6 +12,7 @@ pub mod Prelude
 pub mod Record
 pub mod Rows
 pub mod Steps
+pub mod UntilStop
 pub mod Window
 pub mod WorkedDelayed
 pub mod WorkedLanes

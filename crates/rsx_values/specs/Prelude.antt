@@ -21,10 +21,11 @@ pub use Rattle.rsx_values.specs.Eager.{eager, eager_of}
 pub use Rattle.rsx_values.specs.Flat.{expanded_items, flat_lane, flat_map, flat_map_delay, list_then}
 pub use Rattle.rsx_values.specs.Group.{first_seen, group_by, group_lane, group_lanes, keyed_items, keyed_then, keys_after, lane_ending, of_key, placed, see, tagged_items}
 pub use Rattle.rsx_values.specs.Lanes.{main_input, merged_lanes, merged_lanes_delay}
-pub use Rattle.rsx_values.specs.Latest.{all_latest, behind_first, combine, combine_latest, is_itemless, none_yet, row_first, stops, unless_chosen, walk}
+pub use Rattle.rsx_values.specs.Latest.{all_latest, combine, combine_latest, is_itemless, none_yet, row_first, stops, walk}
 pub use Rattle.rsx_values.specs.Merge.{merge, merge_inputs, merged, taken_ending}
 pub use Rattle.rsx_values.specs.Pick.{InputLeft, Taken, chosen_before, is_failure, left_after, next_here, next_of, no_more, numbered, pick, rest_of, up_to_failure}
 pub use Rattle.rsx_values.specs.Record.{written}
 pub use Rattle.rsx_values.specs.Steps.{TakesAt, TakesNext}
+pub use Rattle.rsx_values.specs.UntilStop.{behind_first, combine_until_stop, latest_by, latest_until_stop, row_before, unless_chosen, walk_until_stop}
 pub use Rattle.rsx_values.specs.Window.{last_window, window, windows, windows_and_main}
 pub use Rattle.rsx_values.specs.Zip.{ending_after, ends_after, first_ending, items_of, shortest, zip, zip_ending, zip_rows}

@@ -1,10 +1,9 @@
 //! Rows of the latest items of several stream values.
 
 ghost use Rattle.std.specs.Prelude.{◌≡◌, List, Option, IfOk, OnOk, option_map, slice_get, slice_set, Some};
-ghost use Rattle.rsx_types.specs.Stream.{Stream};
-ghost use Rattle.rsx_values.specs.Evaluated.{items_first};
+ghost use Rattle.rsx_types.specs.Stream.{Stream, items_then};
 ghost use Rattle.rsx_values.specs.Latest as spec;
-ghost use Rattle.rsx_values.specs.Latest.{all_latest, row_first, behind_first, unless_chosen};
+ghost use Rattle.rsx_values.specs.Latest.{all_latest, row_first};
 
 use crate::{Input, pick};
 use rsx_types::{Ending, NoMemory, Ops, Signal, StreamValue};
@@ -19,8 +18,8 @@ pub trait Latest<T: Drop> {
     /// item once every input has had one. It is done where all inputs are, or one is without any item, failed at the failure
     /// that was taken, and else open.
     ///
-    /// The answer is none where the choices don't fit: one of them finds no signal, or follows a failure or the completion
-    /// which ends the rows.
+    /// The answer is none where the choices don't fit: one of them finds no signal, or follows a failure. Behind the completion that
+    /// ends the rows a choice has only to find a signal.
     ///
     /// # Errors
     ///
@@ -34,7 +33,7 @@ pub trait Latest<T: Drop> {
     ) -> Result<Option<StreamValue<T>>, NoMemory>
         ensures { IfOk result (λ v. v ≡ spec.combine (O.meaning ops.now).row_of (latest self.old) choices.now inputs.items) };
 
-    /// The rows over the signals that were taken, of which the first were chosen so, where so many inputs had not completed.
+    /// The rows over the signals that were taken, where so many inputs had not completed.
     ///
     /// # Errors
     ///
@@ -44,10 +43,9 @@ pub trait Latest<T: Drop> {
         alloc: Global,
         ops: &O,
         left: usize,
-        choices: &[u64],
         taken: Vec<(u64, Signal<T>)>,
-    ) -> Result<Option<StreamValue<T>>, NoMemory>
-        ensures { IfOk result (λ v. v ≡ spec.walk (O.meaning ops.now).row_of (latest self.old) left choices.now taken.items) };
+    ) -> Result<StreamValue<T>, NoMemory>
+        ensures { IfOk result (λ v. v ≡ spec.walk (O.meaning ops.now).row_of (latest self.old) left taken.items) };
 
     /// Puts the row of the latest items behind others, once every input has had one.
     ///
@@ -60,9 +58,9 @@ pub trait Latest<T: Drop> {
         ops: &O,
         rows: &mut Vec<T>,
     ) -> Result<(), NoMemory>
-        ensures { OnOk result ((v : Option (Stream T)) →
-            items_first rows.new.items v
-            ≡ items_first rows.old.items (row_first (O.meaning ops.now).row_of (all_latest (latest self.now)) v)) };
+        ensures { OnOk result ((v : Stream T) →
+            items_then rows.new.items v
+            ≡ items_then rows.old.items (row_first (O.meaning ops.now).row_of (all_latest (latest self.now)) v)) };
 
     /// Copies of the latest items, once every input has had one.
     ///
@@ -87,7 +85,7 @@ impl<T: Drop> Latest<T> for Vec<Option<T>> {
     {
         let left = inputs.len();
         match pick(alloc, inputs, choices)? {
-            Some(taken) => self.walk(alloc, ops, left, choices, taken),
+            Some(taken) => Ok(Some(self.walk(alloc, ops, left, taken)?)),
             None => Ok(None),
         }
     }
@@ -98,16 +96,13 @@ impl<T: Drop> Latest<T> for Vec<Option<T>> {
         alloc: Global,
         ops: &O,
         left: usize,
-        choices: &[u64],
         taken: Vec<(u64, Signal<T>)>,
-    ) -> Result<Option<StreamValue<T>>, NoMemory>
-        ensures { IfOk result (λ v. v ≡ spec.walk (O.meaning ops.now).row_of self.old.items left choices.now taken.items) }
+    ) -> Result<StreamValue<T>, NoMemory>
+        ensures { IfOk result (λ v. v ≡ spec.walk (O.meaning ops.now).row_of self.old.items left taken.items) }
     {
         let mut rows = Vec::new(alloc);
         let mut left = left;
-        let mut later = choices;
         for (number, signal) in taken {
-            later = behind_first(later);
             match signal {
                 Signal::Next(item) => {
                     set_latest(self, number, item);
@@ -115,19 +110,19 @@ impl<T: Drop> Latest<T> for Vec<Option<T>> {
                 }
                 Signal::Complete => {
                     if stops(self.as_slice(), number, left) {
-                        return Ok(unless_chosen(rows, later));
+                        return Ok(StreamValue::new(rows, Ending::Done));
                     }
                     left = left.saturating_sub(1);
                 }
                 Signal::Error(cause) => {
-                    return Ok(Some(StreamValue::new(rows, Ending::Failed(cause))));
+                    return Ok(StreamValue::new(rows, Ending::Failed(cause)));
                 }
             }
         }
         if left == 0 {
-            return Ok(Some(StreamValue::new(rows, Ending::Done)));
+            return Ok(StreamValue::new(rows, Ending::Done));
         }
-        Ok(Some(StreamValue::new(rows, Ending::Open)))
+        Ok(StreamValue::new(rows, Ending::Open))
     }
 
     #[tactic(auto, using(crate::proofs::Walks::row_pushed, crate::proofs::Walks::no_row))]
@@ -137,9 +132,9 @@ impl<T: Drop> Latest<T> for Vec<Option<T>> {
         ops: &O,
         rows: &mut Vec<T>,
     ) -> Result<(), NoMemory>
-        ensures { OnOk result ((v : Option (Stream T)) →
-            items_first rows.new.items v
-            ≡ items_first rows.old.items (row_first (O.meaning ops.now).row_of (all_latest self.now.items) v)) }
+        ensures { OnOk result ((v : Stream T) →
+            items_then rows.new.items v
+            ≡ items_then rows.old.items (row_first (O.meaning ops.now).row_of (all_latest self.now.items) v)) }
     {
         match self.copies(alloc, ops)? {
             Some(items) => {
@@ -190,24 +185,4 @@ fn stops<T: Drop>(latest: &[Option<T>], number: u64, left: usize) -> bool
         Some(Some(_)) => false,
         Some(None) | None => true,
     }
-}
-
-/// The choices behind the first.
-fn behind_first(choices: &[u64]) -> &[u64]
-    ensures { result.now ≡ behind_first choices.now }
-{
-    match choices.split_first() {
-        Some((_, others)) => others,
-        None => choices,
-    }
-}
-
-/// These rows and the completion, where nothing is chosen any more.
-fn unless_chosen<T: Drop>(rows: Vec<T>, later: &[u64]) -> Option<StreamValue<T>>
-    ensures { result ≡ items_first rows.items (unless_chosen later.now) }
-{
-    if later.is_empty() {
-        return Some(StreamValue::new(rows, Ending::Done));
-    }
-    None
 }

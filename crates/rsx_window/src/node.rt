@@ -92,6 +92,7 @@ impl<T: Drop> Machine for WindowNode<T> {
     ghost use Rattle.rsx_window.specs.Laws.{window_drops, window_ends, window_done_drops, window_ending_waits, window_hungry};
     ghost use Rattle.rsx_window.specs.Window.{window_comes_out, window_waiting, window_shown, window_takes, window_ended, window_done, window_wanted, IsPoppedWindow, CountsItems};
     ghost use Rattle.rsx_window.specs.declared.node.WindowNode.{WindowNode};
+    ghost use Rattle.std.proofs.lemmas.Bool.{true≢false};
 
     ghost comes_out = { window_comes_out };
 
@@ -120,6 +121,8 @@ impl<T: Drop> Machine for WindowNode<T> {
     ghost counted = { CountsItems };
 
     ghost wanted = { window_wanted };
+
+    ghost accepts = { λ n a s. true };
 
     ghost popped = { IsPoppedWindow };
 
@@ -329,6 +332,11 @@ impl<T: Drop> Machine for WindowNode<T> {
         self.got
     }
 
+    #[inline(always)]
+    fn accepts_demand(&self, asked: u64, sent: u64) -> bool {
+        true
+    }
+
     fn note(&self, alloc: Global) -> Result<Note, NoMemory> {
         Ok(Note::Nothing)
     }
@@ -376,4 +384,6 @@ impl<T: Drop> Machine for WindowNode<T> {
     ghost ending_waits = { window_ending_waits };
 
     ghost hungry = { window_hungry };
+
+    ghost asked_enough = { λ n a s e. absurd (true≢false e) };
 }

@@ -215,7 +215,7 @@ fn eager(alloc: Global) -> Result<Expr<Val>, NoMemory> {
     Ok(Expr::OnEager(0, 4, Box::new(alloc, failing)?))
 }
 
-/// Whether the value of one of these two under these choices is printed as this text, or the name of the refusal is.
+/// Whether the value of one of these under these choices is printed as this text, or the name of the refusal is.
 fn is_chosen(
     alloc: Global,
     expr: &Expr<Val>,
@@ -245,6 +245,14 @@ fn merged(alloc: Global) -> Result<Expr<Val>, NoMemory> {
     Ok(Expr::Merge(4, inputs))
 }
 
+/// `combineLatest` of 1 and 2, and of no item.
+fn latest(alloc: Global) -> Result<Expr<Val>, NoMemory> {
+    let mut inputs = Vec::new(alloc);
+    inputs.push(numbers(alloc, &[1, 2])?)?;
+    inputs.push(numbers(alloc, &[])?)?;
+    Ok(Expr::Latest(4, inputs))
+}
+
 /// Choices of a `publishOnEager`, with the text of the value under them.
 const EAGER: [(&[u64], &str); 10] = [
     (&[], "[2, 3] Failed(Function(1))"),
@@ -267,6 +275,17 @@ const MERGED: [(&[u64], &str); 4] = [
     (&[2], "M2"),
 ];
 
+/// Choices of a `combineLatest`. The completion of the second input ends the rows, and a choice behind it has only to find a signal:
+/// the first input has three.
+const LATEST: [(&[u64], &str); 6] = [
+    (&[], "[] Done"),
+    (&[1], "[] Done"),
+    (&[0, 1, 0], "[] Done"),
+    (&[1, 0, 0, 0], "[] Done"),
+    (&[1, 0, 0, 0, 0], "M2"),
+    (&[1, 1], "M2"),
+];
+
 #[test]
 fn values_follow_choices(rt: HostRuntime) -> Result<(), Fail> {
     let alloc = rt.alloc();
@@ -276,6 +295,10 @@ fn values_follow_choices(rt: HostRuntime) -> Result<(), Fail> {
     }
     let expr = merged(alloc)?;
     for (choices, text) in &MERGED {
+        assert!(rt; is_chosen(alloc, &expr, choices, text)?, "{text}");
+    }
+    let expr = latest(alloc)?;
+    for (choices, text) in &LATEST {
         assert!(rt; is_chosen(alloc, &expr, choices, text)?, "{text}");
     }
     Ok(())

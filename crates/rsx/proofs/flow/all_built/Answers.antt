@@ -1,7 +1,8 @@
 use Rattle.std.proofs.Common.{◌≡◌, length, map, ◌++◌, option_map, sym, ap, ◌∙◌, arith}
 use Rattle.rsx.specs.Built.{built}
 use Rattle.rsx.specs.Flow.{all_of}
-use Rattle.rsx.proofs.Taken.{none_left, none_taken, one_taken, all_taken}
+use Rattle.std.proofs.lemmas.List.{nil_from_length}
+use Rattle.rsx.proofs.Taken.{none_taken, one_taken, all_taken}
 use Rattle.rsx.proofs.flow.all_built.Goals as goal
 
 pub loop-input-init : goal.loop-input-init
@@ -22,4 +23,4 @@ loop-input-preserved g c = (
 pub returns : goal.returns
 returns g c =
     let none : length c.loop-input.input-iterator.rest.items ≡ 0 = omega (arith, c.in-None.ensures.steps.0, c.loop-input.input-iterator.rest.ok.0) in
-    all_taken built (all_of (map built c.args.inputs.items)) c.loop-input.input-iterator.rest.items c.loop-input.exprs.items c.loop-input.invariant.0 (none_left c.loop-input.input-iterator.rest.items none)
+    all_taken built (all_of (map built c.args.inputs.items)) c.loop-input.input-iterator.rest.items c.loop-input.exprs.items c.loop-input.invariant.0 (nil_from_length c.loop-input.input-iterator.rest.items none)

@@ -1,4 +1,4 @@
-use Rattle.std.proofs.Common.{◌∷◌, [], ◌∙◌, ap, rules, sym}
+use Rattle.std.proofs.Common.{◌∙◌, ap, rules, sym}
 use Rattle.rsx_model.specs.Shape.{listed_below}
 use Rattle.rsx_types.proofs.Lists.{drop_read}
 use Rattle.rsx_graph_calls.proofs.Sent.{added_all, added_next, added_one_below, input_smaller, on_ok}

@@ -18,7 +18,7 @@ returns-in-Ok-ask_over-clause-made g c = λ _.
     let same = c.in-Err-NotEnabled.ensures.same in
     made_after g.M.Machine (g.O.Ops.meaning c.args.ops.now) true false c.args.input c.args.asked c.args.sent c.args.receiver.now c.send_over.new.receiver c.send_over.new.receiver c.args.edge.now c.send_over.new.edge c.ask_over.new.edge c.args.sender.now c.send_over.new.sender c.send_over.new.sender c.args.below.now c.args.below.now
     same.0 same.1 same.2
-    (asked_here g.M.Machine (g.O.Ops.meaning c.args.ops.now) true c.args.input c.args.asked c.args.sent c.send_over.new.receiver c.send_over.new.receiver c.send_over.new.edge c.ask_over.new.edge c.send_over.new.sender c.send_over.new.sender c.args.below.now (c.in-Ok-ask_over.ensures.made c.send_over.new.sender))
+    (asked_here g.M.Machine (g.O.Ops.meaning c.args.ops.now) true c.args.input c.args.asked c.args.sent c.send_over.new.receiver c.send_over.new.receiver c.send_over.new.edge c.ask_over.new.edge c.send_over.new.sender c.send_over.new.sender c.args.below.now c.in-Ok-ask_over.ensures.made)
 
 pub returns-in-Ok-true-clause-made : goal.returns-in-Ok-true-clause-made
 returns-in-Ok-true-clause-made g c = λ _.

@@ -1,4 +1,4 @@
-use Rattle.std.proofs.Common.{◌≡◌, true, rules}
+use Rattle.std.proofs.Common.{◌≡◌, true, refl, rules}
 use Rattle.rsx_sources.specs.Prelude.{front_of}
 use Rattle.rsx_tree.specs.Edges.{edge_view, passed}
 use Rattle.rsx_tree.specs.Inputs.{can_send_over}
@@ -10,7 +10,7 @@ returns-in-Ok-clause-made g c = λ asked sent.
     let b = g.M.Machine in
     let m = g.O.Ops.meaning c.args.ops.now in
     let s = c.in-Ok-Some.signal in
-    let both = given_out b m c.args.sender.now c.pop_front.new.self (b.popping c.args.sender.now) c.in-Ok-Some.field-0 s c.in-Ok-Some.field-0-is c.in-Ok-Some.ensures.ok c.pop_front.ensures.recorded c.in-Ok-Some.ensures.counts in
+    let both = given_out b m c.args.sender.now c.pop_front.new.self (b.popping c.args.sender.now) c.in-Ok-Some.field-0 s refl c.in-Ok-Some.field-0-is c.in-Ok-Some.ensures.ok c.pop_front.ensures.recorded c.in-Ok-Some.ensures.counts in
     let out = both.0 in
     let can : can_send_over b m c.args.receiver.now c.args.input (edge_view c.args.edge.now) c.args.sender.now ≡ true = search rules in
     let edge : edge_view c.carry.new.self ≡ passed (edge_view c.args.edge.now) (front_of s) = search rules in
@@ -20,6 +20,7 @@ returns-in-Ok-clause-made g c = λ asked sent.
       offered = out.waited;
       popped = out.popped;
       note = out.note;
+      noting = out.noting;
       ready = out.ready;
       noted = out.noted;
       gone = out.gone;

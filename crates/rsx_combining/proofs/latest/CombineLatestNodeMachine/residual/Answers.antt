@@ -2,8 +2,8 @@ use Rattle.std.proofs.Common.{◌≡◌, ◌++◌, [], length, Some, None, sym, 
 use Rattle.std.proofs.lemmas.Result.{IfOk-weaker}
 use Rattle.rsx_sources.specs.Prelude.{Done, ended_by}
 use Rattle.rsx_queued.specs.Prelude.{output_then, inputs_left}
-use Rattle.rsx_values.specs.Prelude.{combine, rest_of}
-use Rattle.rsx_combining.specs.LatestLaws.{some_walk}
+use Rattle.rsx_values.specs.Prelude.{combine_until_stop, rest_of, walk}
+use Rattle.rsx_values.proofs.UntilStop.{combine_unchosen}
 use Rattle.rsx_combining.specs.Latest.{LatestState}
 use Rattle.rsx_combining.proofs.Comes.{residual_of}
 use Rattle.rsx_combining.proofs.latest.CombineLatestNodeMachine.residual.Goals as goal
@@ -15,7 +15,7 @@ returns g c =
     let inputs : c.push_inputs.new.self.items ≡ inputs_left 0 c.self.inside.inputs.items c.args.incoming.now =
     c.in_ok-push_inputs.ensures ∙ ap (λ l. l ++ inputs_left 0 c.as_slice.result.now c.args.incoming.now) c.new-inputs.ensures.items ∙ ap (λ l. inputs_left 0 l c.args.incoming.now) c.as_slice.ensures.value in
     let latest : c.in_ok-latest.latest.items ≡ c.self.inside.latest = c.in_ok-latest.ensures in
-    let rest = c.in_ok-rest.ensures ∙ ap (λ l. combine m.row_of l [] c.push_inputs.new.self.items) latest ∙ ap (combine m.row_of c.self.inside.latest []) inputs in
+    let rest = c.in_ok-rest.ensures ∙ combine_unchosen m.row_of c.in_ok-latest.latest.items c.push_inputs.new.self.items ∙ ap (λ l. combine_until_stop m.row_of l [] c.push_inputs.new.self.items) latest ∙ ap (combine_until_stop m.row_of c.self.inside.latest []) inputs in
     IfOk-weaker c.in_front.result (λ v. output_then c.self.inside.output (Some c.in-Some.rest) (Some (ended_by Done)) ≡ Some v) _
     (λ v gives. residual_of m start c.args.self.now c.args.inboxes.now c.args.incoming.now c.in_ok-rest.field-0 c.in-Some.rest v c.self.view_is rest c.in-Some.is gives) c.in_front.ensures
 
@@ -23,8 +23,7 @@ pub unreachable-requires : goal.unreachable-requires
 unreachable-requires g c =
     let m = g.O.Ops.meaning c.args.ops.now in
     let is = c.push_inputs.new.self.items in
-    let w = some_walk m.row_of c.in_ok-latest.latest.items (length is) (rest_of is) in
-    let clash : None ≡ Some w.0 = sym c.in-None.is ∙ c.in_ok-rest.ensures ∙ w.1 in
+    let clash : None ≡ Some (walk m.row_of c.in_ok-latest.latest.items (length is) (rest_of is)) = sym c.in-None.is ∙ c.in_ok-rest.ensures in
     cc
 
 pub push_inputs-requires : goal.push_inputs-requires

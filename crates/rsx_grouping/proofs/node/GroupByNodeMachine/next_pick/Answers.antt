@@ -1,4 +1,4 @@
-use Rattle.std.proofs.Common.{◌≡◌, ◌∙◌, ap, sym, subst, true}
+use Rattle.std.proofs.Common.{◌≡◌, ◌∙◌, sym, subst, true}
 use Rattle.rsx_grouping.specs.Rows.{can_pick_at}
 use Rattle.std.specs.Prelude.{slice_get}
 use Rattle.rsx_grouping.proofs.Chosen.{lane_picks}

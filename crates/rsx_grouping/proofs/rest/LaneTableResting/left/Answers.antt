@@ -1,4 +1,4 @@
-use Rattle.std.proofs.Common.{◌≡◌, [], length, ap, sym, ◌∙◌, ◌++◌}
+use Rattle.std.proofs.Common.{[], length, ap, ◌∙◌, ◌++◌}
 use Rattle.rsx_grouping.specs.Rest.{keyed_value}
 use Rattle.rsx_grouping.specs.Table.{lanes_there}
 use Rattle.rsx_grouping.proofs.Copies.{all_pushed}

@@ -1,5 +1,4 @@
 use Rattle.std.proofs.Common.{◌≡◌, length, arith, rules, sym, ◌∙◌}
-use Rattle.std.proofs.lemmas.Option.{IfSome_then}
 use Rattle.rsx_combining.proofs.RowsThrough.{rows_long}
 use Rattle.rsx_kinds.proofs.Batched.{passed_concat_all, picked_latest_all, picked_merge_all}
 use Rattle.rsx_kinds.proofs.batches.SeveralNodeBatches.try_pass.Goals as goal

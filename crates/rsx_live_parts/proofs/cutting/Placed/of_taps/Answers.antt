@@ -1,4 +1,4 @@
-use Rattle.std.proofs.Common.{ℕ, ap, sym, ◌∙◌, arith, length, ◌<◌, ◌+◌, ◌≡◌, subst}
+use Rattle.std.proofs.Common.{ℕ, ap, ◌∙◌, length, ◌<◌, ◌+◌}
 use Rattle.rsx_types.specs.declared.names.SubId.{SubId}
 use Rattle.rsx_live_parts.specs.Cursors.{first_of, region_in, root_at, root_in}
 use Rattle.rsx_live_parts.specs.declared.cutting.Cursor.{Cursor}

@@ -1,4 +1,4 @@
-use Rattle.std.proofs.Common.{◌≡◌, false, refl, rules, subst, sym, ◌∙◌}
+use Rattle.std.proofs.Common.{refl, rules, subst}
 use Rattle.rsx_live_parts.specs.Outgoing.{MayGoOut}
 use Rattle.rsx_live_parts.specs.declared.kept.Kept.TheVariants.{Away}
 use Rattle.rsx_live_parts.proofs.Sending.{goes_parted, here_parted}

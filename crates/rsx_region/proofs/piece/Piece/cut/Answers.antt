@@ -1,4 +1,4 @@
-use Rattle.std.proofs.Common.{◌≡◌, ◌<◌, ℕ, List, [], ◌∷◌, ◌++◌, map, ap, subst, sym, ◌∙◌, refl, arith, inr}
+use Rattle.std.proofs.Common.{◌≡◌, ℕ, List, [], ◌∷◌, ◌++◌, map, ap, subst, sym, ◌∙◌, refl, arith, inr}
 use Rattle.std.specs.Prelude.{option_map}
 use Rattle.rsx_sources.specs.Prelude.{Next}
 use Rattle.rsx_tree.specs.Edges.{edge_view}

@@ -1,4 +1,4 @@
-use Rattle.std.proofs.Common.{◌≡◌, ◌+◌, ◌≤◌, length, refl, arith}
+use Rattle.std.proofs.Common.{length, refl, arith}
 use Rattle.rsx_region.proofs.Stages.{last_still, none_counted, none_left, on_err, still_since}
 use Rattle.rsx_region.proofs.trees.CutTrees.join_all.Goals as goal
 

@@ -1,4 +1,4 @@
-use Rattle.rsx_session.specs.Prelude.{IsWait, Val, demo_meaning}
+use Rattle.rsx_session.specs.Prelude.{IsWait, demo_meaning}
 use Rattle.rsx_waits.specs.Texts.{wait_text}
 use Rattle.rsx_waits.specs.declared.wait.Wait.{Wait}
 use Rattle.std.proofs.Common.{◌≡◌, ◌++◌, codes, length, inl, refl, arith}

@@ -1,4 +1,4 @@
-use Rattle.std.proofs.Common.{◌+◌, arith, rules}
+use Rattle.std.proofs.Common.{◌+◌, arith}
 use Rattle.rsx_subscriber.proofs.Moves.{pumped_more, pumped_none}
 use Rattle.rsx_subscriber.proofs.subscription.Subscription.fetch_batches.Goals as goal
 

@@ -6,7 +6,7 @@ use Rattle.rsx_tree.proofs.inputs.Inputs.+ask.Goals as goal
 pub returns-in-Ok-clause-made : goal.returns-in-Ok-clause-made
 returns-in-Ok-clause-made g t c =
     changed_here (IsAskedOver g.M.Machine) (λ n. false) c.args.receiver.now c.args.receiver.now c.args.input c.args.asked c.args.sent c.args.self.now c.in-More.edge c.ask_over.new.edge c.in-More.machine c.in-More.machine c.in-More.below c.in-More.beside c.args.at
-    c.in-More.is c.if-at-eq0.true (c.in-Ok.ensures.made c.in-More.machine)
+    c.in-More.is c.if-at-eq0.true c.in-Ok.ensures.made
 
 pub returns-in-Ok-ask-clause-made : goal.returns-in-Ok-ask-clause-made
 returns-in-Ok-ask-clause-made g t c =

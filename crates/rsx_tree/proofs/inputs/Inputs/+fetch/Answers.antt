@@ -17,7 +17,7 @@ fetch-items-preserved-in-Ok g t c =
     let some = c.if-left-eq0.false in (
       λ beside is.
           under_way_asked g.M.Machine (g.O.Ops.meaning c.args.ops.now) true c.args.input c.args.asked c.args.sent c.args.left.now c.items.left c.args.receiver.now c.args.self.now c.items.receiver c.items.receiver c.items.edge c.ask_over.new.edge c.items.sender c.items.sender c.items.below beside
-          (c.items.invariant.0 beside is) (omega (arith, some)) (c.in-Ok.ensures.made c.items.sender),
+          (c.items.invariant.0 beside is) (omega (arith, some)) c.in-Ok.ensures.made,
       c.items.invariant.1,
     )
 
@@ -143,5 +143,5 @@ pull-returns-in-Some g t c = (
   c.args.sender.now,
   omega arith,
   (λ r i asked sent p q beside. refl),
-  item_out_of g.M.Machine (g.O.Ops.meaning c.args.ops.now) c.args.sender.now c.pop_item.new.self (g.M.Machine.popping c.args.sender.now) c.in-Some.item c.in-Some.ensures.some c.in-Some.ensures.alike,
+  item_out_of g.M.Machine (g.O.Ops.meaning c.args.ops.now) c.args.sender.now c.pop_item.new.self (g.M.Machine.popping c.args.sender.now) c.in-Some.item refl c.in-Some.ensures.some c.in-Some.ensures.alike,
 )

@@ -1,8 +1,0 @@
-use Rattle.std.proofs.Common.{rules}
-use Rattle.rsx_values.proofs.latest.unless_chosen.Goals as goal
-
-pub returns-then-is_empty : goal.returns-then-is_empty
-returns-then-is_empty g c = search rules
-
-pub returns : goal.returns
-returns g c = search rules
