@@ -18,11 +18,8 @@ use std::sync::Wait;
 use std::thread::Threads;
 
 /// Serves each region of the graph by a worker on a thread of its own, and runs `main` on the calling thread meanwhile, as
-/// [`serve_on_threads`](rsx_runtime::serve_on_threads) says. There is a seat for each region, in their order, each with all parts, and a
-/// parker for each. The seats come back so, with what `main` answered.
-///
-/// A program calls this in place of that: at the nodes of a graph the prover can't say in one call that they are nodes, and all that
-/// stands there.
+/// [`serve_seats`] says. Worker w works on region w by [`work`]. There is a seat for each region, in their order, each with all parts, and a
+/// parker for each. The seats come back so, with what `main` answered, so that the graph may be closed.
 pub fn serve_regions<
     R: Threads + Wait + Sync,
     T: Send + Drop,

@@ -11,10 +11,9 @@
 //! [`work`] is the loop of a worker: it pokes one region again and again, rouses the workers of the regions that a poke named, and rests
 //! where nothing is left to do. [`ParkRest`] rests on a parker, and a [`Rouser`] rouses and stops such workers from other threads.
 //!
-//! [`serve_on_threads`] gives each region of a [`Live`] such a worker, which rests on a parker ([`Parkers`]), starts a thread for each,
-//! and runs `main` on the calling thread meanwhile. As `main` returns all workers are stopped, and once they have ended all seats come
-//! back, so that the graph may be closed. [`serve_seats`] does so with seats of any type, by a function of the caller's. Only these two,
-//! `work` and the rest of a `ParkRest` wait.
+//! [`serve_seats`] starts a thread for each region, on which a function of the caller's works by the region's seat and rests on a parker
+//! ([`Parkers`]), and runs `main` on the calling thread meanwhile. As `main` returns all workers are stopped, and once they have ended all
+//! seats come back, so that the graph may be closed. Only this, `work` and the rest of a `ParkRest` wait.
 //!
 //! [`Live::begin`] puts the pieces of trees that were cut into regions, and opens a gate for each. By [`Live::close`] the gates end, and
 //! the trees come back; by [`Live::stop`] the regions do.
@@ -54,7 +53,7 @@ pub use pass::{RegionLeft, RegionPass};
 pub use rest::{Rest, Rested};
 pub use stopping::Stopped;
 pub use tap::{Canceller, Tap, TapEnds, Tapped};
-pub use threads::{Served, serve_on_threads, serve_seats};
+pub use threads::serve_seats;
 pub use worker::work;
 
 /// How often a poke serves its region before it gives up the gate.
