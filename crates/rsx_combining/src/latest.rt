@@ -220,7 +220,7 @@ impl<T: Drop> PassingRows<T> for CombineLatestNode<T> {
 impl<T: Drop> Machine for CombineLatestNode<T> {
     type Item = T;
 
-    ghost use Rattle.std.specs.Prelude.{◌≡◌, true, false, refl, None, IfOk, IfErr, OnOk, OnErr};
+    ghost use Rattle.std.specs.Prelude.{◌≡◌, ⊤, true, false, refl, None, IfOk, IfErr, OnOk, OnErr};
     ghost use Rattle.rsx_types.specs.Notes.{note_then};
     ghost use Rattle.rsx_sources.specs.Counts.{CountsIn, CountsStep};
     ghost use Rattle.rsx_sources.specs.Machine.{TakesIn, Keeps, Records, IsComposed, front_of};
@@ -244,6 +244,12 @@ impl<T: Drop> Machine for CombineLatestNode<T> {
     ghost rows = { λ n a s. false };
 
     ghost rowed = { λ n a s k. ⊥ };
+
+    ghost took = { λ n i s new. new ≡ latest_with_signal n i s };
+
+    ghost heard = { λ n s new. ⊤ };
+
+    ghost picked = { λ n i new. ⊤ };
 
     ghost recording = { latest_recording };
 

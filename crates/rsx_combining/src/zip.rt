@@ -143,7 +143,7 @@ impl<T: Drop> ZipNode<T> {
 impl<T: Drop> Machine for ZipNode<T> {
     type Item = T;
 
-    ghost use Rattle.std.specs.Prelude.{◌≡◌, true, false, refl, None, IfOk, IfErr, OnOk, OnErr};
+    ghost use Rattle.std.specs.Prelude.{◌≡◌, ⊤, true, false, refl, None, IfOk, IfErr, OnOk, OnErr};
     ghost use Rattle.rsx_types.specs.Notes.{note_then};
     ghost use Rattle.rsx_sources.specs.Counts.{CountsIn, CountsStep};
     ghost use Rattle.rsx_sources.specs.Machine.{TakesIn, Keeps, Records, IsComposed, front_of};
@@ -167,6 +167,12 @@ impl<T: Drop> Machine for ZipNode<T> {
     ghost rows = { zip_rows };
 
     ghost rowed = { IsZipRow };
+
+    ghost took = { λ n i s new. new ≡ zip_with_signal n i s };
+
+    ghost heard = { λ n s new. ⊤ };
+
+    ghost picked = { IsZipPick };
 
     ghost recording = { zip_recording };
 

@@ -1,5 +1,5 @@
 -- The words of contracts on a whole graph: those of its hubs, feeds and subscriptions, under what the functions that it holds mean.
-use Rattle.rsx_graph.specs.Kinds.{IsMoved, IsNextRefused, drives_allocate, is_enabled, may_allocate, sent}
+use Rattle.rsx_graph.specs.Kinds.{IsMadeAlone, IsMoved, IsNextRefused, drives_allocate, is_enabled, may_allocate, sent}
 use Rattle.std.specs.Prelude.{ℕ, Bool, List, map, Option, Result}
 use Rattle.rsx_graph_moves.specs.Moves.{IsMakeRefusal}
 use Rattle.rsx_graph_calls.specs.Regions.{regions_of}
@@ -52,6 +52,11 @@ sent_in {O} {T} {b} graph mv = sent (b.meaning graph.ops) (state_of graph).rows 
 -- what the move changes, where it delivers this
 abbrev pub IsMadeIn : {O T : Type 0} {b : Ops O T} → Move → Graph O T b → Graph O T b → Option (SubId × Signal T) → Type 0
 IsMadeIn {O} {T} {b} mv old new o = IsMoved (b.meaning old.ops) mv (state_of old).rows (state_of new).rows o
+
+-- what a call that makes just this move says besides: no step of a node was made besides, not even one that leaves no trace in what comes
+-- out, as a row of a zip, or an item that goes over an edge that crosses
+abbrev pub IsAloneIn : {O T : Type 0} {b : Ops O T} → Move → Graph O T b → Graph O T b → Type 0
+IsAloneIn {O} {T} {b} mv old new = IsMadeAlone (b.meaning old.ops) mv (state_of old).rows (state_of new).rows
 
 -- why the move is refused
 abbrev pub IsRefusedIn : {O T : Type 0} {b : Ops O T} → Move → Graph O T b → Refusal → Type 0

@@ -233,6 +233,9 @@ AreIdle-prop m idle subs = MovesResting.AreIdle-prop any_machine m idle subs
 abbrev pub IsMoved : {T : Type 0} → Meaning T → Move → Rows T → Rows T → Option (SubId × Signal T) → Type 0
 IsMoved m mv g g' o = MovesMoves.IsMoved any_machine tree_nodes m mv g g' o
 
+abbrev pub IsMadeAlone : {T : Type 0} → Meaning T → Move → Rows T → Rows T → Type 0
+IsMadeAlone m mv g g' = MovesMoves.IsMadeAlone any_machine tree_nodes m mv g g'
+
 abbrev pub IsMovedInFeed : {T : Type 0} → Meaning T → Option NodeMove → ℕ → Rows T → Rows T → Type 0
 IsMovedInFeed m move n g g' = MovesMoves.IsMovedInFeed any_machine m move n g g'
 

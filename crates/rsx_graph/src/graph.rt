@@ -66,7 +66,7 @@ pub struct Graph<O: Ops> {
 }
 
 impl<O: Ops> Graph<O> {
-    ghost use Rattle.rsx_graph.specs.InGraph.{state_of, IfStandsFor, StandsAfter, enabled_in, allocates_in, sent_in, IsMadeIn, IsRefusedIn, drives_allocate_in, HasPumpedIn, fed_in, IsDoneIn, HasRunIn};
+    ghost use Rattle.rsx_graph.specs.InGraph.{state_of, IfStandsFor, StandsAfter, enabled_in, allocates_in, sent_in, IsAloneIn, IsMadeIn, IsRefusedIn, drives_allocate_in, HasPumpedIn, fed_in, IsDoneIn, HasRunIn};
 
     /// A graph with no hub and no subscription. It takes no memory so far, and is never refused.
     pub fn new(alloc: Global, ops: O) -> Result<Graph<O>, Refusal>
@@ -214,6 +214,7 @@ impl<O: Ops> Graph<O> {
         ensures answer { IfOk result (λ o. IsMadeAnswer step o) }
         ensures enabled { OnOk result (enabled_in self.old step ≡ true) }
         ensures effect { IfOk result (λ o. IsMadeIn step self.old self.new o) }
+        ensures alone { OnOk result (IsAloneIn step self.old self.new) }
         ensures joins { AreJoinsSame (state_of self.old) (state_of self.new) }
         ensures err { IfErr result (λ r. IsRefusedIn step self.old r) }
 

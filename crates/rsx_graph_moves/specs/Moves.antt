@@ -1,8 +1,8 @@
 -- Any move of a graph with feeds: when it is enabled, and what it changes.
 use Rattle.rsx_sources.specs.declared.machine.Machine.{Ghosts as Machine}
 use Rattle.rsx_rooted.specs.declared.nodes.Nodes.{Ghosts as Nodes}
-use Rattle.std.specs.Prelude.{◌≡◌, ℕ, Bool, true, false, ◌||◌, List, length, Option, Some, None}
-use Rattle.rsx_graph_state.specs.Prelude.{IsAcceptedAt, IsFeedMoved, IsFeedRefusal, accepts_at, feed_allocates, feed_enabled, has_feed, sent_by, Rows, feed_of, IsAcceptRefusal, IsSubMoveRefusal, signals_wait, IsMadeAt, allocates_at, enabled_at, pump_allocates}
+use Rattle.std.specs.Prelude.{◌≡◌, ⊤, ℕ, Bool, true, false, ◌||◌, List, length, Option, Some, None}
+use Rattle.rsx_graph_state.specs.Prelude.{IsAcceptedAt, IsAloneAt, IsAloneInFeed, IsFeedMoved, IsFeedRefusal, accepts_at, feed_allocates, feed_enabled, has_feed, sent_by, Rows, feed_of, IsAcceptRefusal, IsSubMoveRefusal, signals_wait, IsMadeAt, allocates_at, enabled_at, pump_allocates}
 use Rattle.rsx_graph_state.specs.declared.refusal.Refusal.{Refusal}
 use Rattle.rsx_graph_state.specs.declared.feed.Feed.{Feed}
 use Rattle.rsx_subscriber.specs.Prelude.{route, inside_node, name_of, node_move, node_of, NodeMove}
@@ -101,6 +101,27 @@ IsMoved mc kd m (Take t n) old new o = IsMovedInTree mc kd m (Take t n) t old ne
 IsMoved mc kd m (Pick t n i) old new o = IsMovedInTree mc kd m (Pick t n i) t old new o
 IsMoved mc kd m (Row t n) old new o = IsMovedInTree mc kd m (Row t n) t old new o
 IsMoved mc kd m (Accept h) old new o = IsAcceptedAt mc h.0 old new
+
+-- ---- what a call that makes just one move says besides
+
+-- of the feed of the hub with this number, where the move is one in it
+abbrev pub IsAloneByFeed : {M T : Type 0} → Machine M T → Meaning T → Option NodeMove → ℕ → List (Feed M) → List (Feed M) → Type 0
+IsAloneByFeed mc m None h feeds news = ⊤
+IsAloneByFeed mc m (Some step) h feeds news = IsAloneInFeed mc m step h feeds news
+
+-- of the tree in which it made it: no step of a node was made besides, not even one that leaves no trace in what comes out
+abbrev pub IsAloneInTree : {M T : Type 0} → Machine M T → Nodes M T → Meaning T → Move → Tree → Rows M T → Rows M T → Type 0
+IsAloneInTree mc kd m mv (Sub i) old new = IsAloneAt mc kd m mv i.0 old.subs new.subs
+IsAloneInTree mc kd m mv (FeedOf h) old new = IsAloneByFeed mc m (feed_move kd old.feeds h.0 mv) h.0 old.feeds new.feeds
+
+-- what an Accept does to each node that reads the hub, its effect says
+abbrev pub IsMadeAlone : {M T : Type 0} → Machine M T → Nodes M T → Meaning T → Move → Rows M T → Rows M T → Type 0
+IsMadeAlone mc kd m (Ask t n) old new = IsAloneInTree mc kd m (Ask t n) t old new
+IsMadeAlone mc kd m (Send t n) old new = IsAloneInTree mc kd m (Send t n) t old new
+IsMadeAlone mc kd m (Take t n) old new = IsAloneInTree mc kd m (Take t n) t old new
+IsMadeAlone mc kd m (Pick t n i) old new = IsAloneInTree mc kd m (Pick t n i) t old new
+IsMadeAlone mc kd m (Row t n) old new = IsAloneInTree mc kd m (Row t n) t old new
+IsMadeAlone mc kd m (Accept h) old new = ⊤
 
 -- ---- why it is refused
 

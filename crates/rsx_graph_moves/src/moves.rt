@@ -5,12 +5,12 @@ ghost use Rattle.rsx_graph_state.specs.History.{History, with_delivery, with_mad
 ghost use Rattle.rsx_graph_state.specs.Moves.{IsFeedRefusal, has_feed, rows_of};
 ghost use Rattle.rsx_graph_state.specs.Stands.{StandsFor};
 ghost use Rattle.rsx_graph_state.specs.Answers.{IsSubMoveRefusal};
-ghost use Rattle.rsx_graph_state.specs.Subscriptions.{IsMadeAt, allocates_at, enabled_at};
+ghost use Rattle.rsx_graph_state.specs.Subscriptions.{IsAloneAt, IsMadeAt, allocates_at, enabled_at};
 ghost use Rattle.rsx_hub.specs.Hub.{HubState};
 ghost use Rattle.rsx_graph_state.specs.declared.feed.Feed.{Feed as FeedOf};
 ghost use Rattle.rsx_subscriber.specs.declared.subscription.Subscription.{Subscription as SubscriptionOf};
 ghost use Rattle.rsx_subscriber.specs.Stands.{IsMadeAnswer};
-ghost use Rattle.rsx_graph_moves.specs.Moves.{IsMakeRefusal, IsMoved, IsMovedInFeed, feed_move, feed_move_allocates, feed_move_enabled, is_enabled, may_allocate, sent, sent_by_feed};
+ghost use Rattle.rsx_graph_moves.specs.Moves.{IsAloneByFeed, IsMadeAlone, IsMakeRefusal, IsMoved, IsMovedInFeed, feed_move, feed_move_allocates, feed_move_enabled, is_enabled, may_allocate, sent, sent_by_feed};
 
 use crate::{make_in_tree, take};
 use rsx_graph_state::{Feed, Refusal, accept, make_in_feed, place_of};
@@ -46,6 +46,7 @@ pub fn make<N: Nodes<Item = O::Item>, O: Ops>(
     ensures answer { IfOk result (λ o. IsMadeAnswer step o) }
     ensures enabled { OnOk result (is_enabled N.Machine N.Nodes.own (O.meaning ops.now) (rows_of hubs.old.items feeds.old.items subscriptions.old.items) step ≡ true) }
     ensures effect { IfOk result (λ o. IsMoved N.Machine N.Nodes.own (O.meaning ops.now) step (rows_of hubs.old.items feeds.old.items subscriptions.old.items) (rows_of hubs.new.items feeds.new.items subscriptions.new.items) o) }
+    ensures alone { OnOk result (IsMadeAlone N.Machine N.Nodes.own (O.meaning ops.now) step (rows_of hubs.old.items feeds.old.items subscriptions.old.items) (rows_of hubs.new.items feeds.new.items subscriptions.new.items)) }
     ensures err { IfErr result (λ r. IsMakeRefusal (rows_of hubs.old.items feeds.old.items subscriptions.old.items)
         (is_enabled N.Machine N.Nodes.own (O.meaning ops.now) (rows_of hubs.old.items feeds.old.items subscriptions.old.items) step) step r) }
 
@@ -116,6 +117,7 @@ fn take_in_tree<N: Nodes<Item = O::Item>, O: Ops>(
     ensures answer { IfOk result (λ o. IsMadeAnswer (Move.Take (Tree.Sub sub) node) o) }
     ensures enabled { OnOk result (enabled_at N.Machine N.Nodes.own (O.meaning ops.now) subscriptions.old.items sub.0 (Move.Take (Tree.Sub sub) node) ≡ true) }
     ensures effect { IfOk result (λ o. IsMadeAt N.Machine N.Nodes.own (O.meaning ops.now) (Move.Take (Tree.Sub sub) node) sub.0 subscriptions.old.items subscriptions.new.items o) }
+    ensures alone { OnOk result (IsAloneAt N.Machine N.Nodes.own (O.meaning ops.now) (Move.Take (Tree.Sub sub) node) sub.0 subscriptions.old.items subscriptions.new.items) }
     ensures err { IfErr result (λ r. IsSubMoveRefusal (length subscriptions.old.items)
         (enabled_at N.Machine N.Nodes.own (O.meaning ops.now) subscriptions.old.items sub.0 (Move.Take (Tree.Sub sub) node)) sub r) }
     ensures memory { allocates_at N.Machine N.Nodes.own (O.allocates ops.now) subscriptions.old.items sub.0 (Move.Take (Tree.Sub sub) node) ≡ false → IfErr result (λ r. r ≢ Refusal.NoMemory) }
@@ -153,6 +155,7 @@ fn make_of_feed<N: Nodes<Item = O::Item>, O: Ops>(
         (with_sent (sent_by_feed N.Machine (O.meaning ops.now) (rows_of hubs.old.items feeds.old.items subscriptions.old.items) hub.0 (feed_move N.Nodes.own feeds.old.items hub.0 step)) hub.0 h)) }
     ensures enabled { OnOk result (feed_move_enabled N.Machine (O.meaning ops.now) (rows_of hubs.old.items feeds.old.items subscriptions.old.items) hub.0 (feed_move N.Nodes.own feeds.old.items hub.0 step) ≡ true) }
     ensures effect { OnOk result (IsMovedInFeed N.Machine (O.meaning ops.now) (feed_move N.Nodes.own feeds.old.items hub.0 step) hub.0 (rows_of hubs.old.items feeds.old.items subscriptions.old.items) (rows_of hubs.new.items feeds.new.items subscriptions.new.items)) }
+    ensures alone { OnOk result (IsAloneByFeed N.Machine (O.meaning ops.now) (feed_move N.Nodes.own feeds.old.items hub.0 step) hub.0 feeds.old.items feeds.new.items) }
     ensures err { IfErr result (IsFeedRefusal (has_feed (rows_of hubs.old.items feeds.old.items subscriptions.old.items) hub.0)
         (feed_move_enabled N.Machine (O.meaning ops.now) (rows_of hubs.old.items feeds.old.items subscriptions.old.items) hub.0 (feed_move N.Nodes.own feeds.old.items hub.0 step))) }
     ensures memory { feed_move_allocates N.Machine (O.allocates ops.now) feeds.old.items hub.0 (feed_move N.Nodes.own feeds.old.items hub.0 step) ≡ false → IfErr result (λ r. r ≢ Refusal.NoMemory) }

@@ -7,7 +7,7 @@ ghost use Rattle.rsx_subscriber.specs.Moves.{delivery};
 ghost use Rattle.rsx_subscriber.specs.Past.{Past, given};
 ghost use Rattle.rsx_subscriber.specs.Stands.{IsInside};
 ghost use Rattle.rsx_graph_state.specs.Answers.{IsSubMoveRefusal, changed};
-ghost use Rattle.rsx_graph_state.specs.Subscriptions.{AllStand, IsMadeAt, allocates_at, enabled_at};
+ghost use Rattle.rsx_graph_state.specs.Subscriptions.{AllStand, IsAloneAt, IsMadeAt, allocates_at, enabled_at};
 
 use rsx_graph_state::Refusal;
 use rsx_pipe::Nodes;
@@ -34,6 +34,7 @@ pub fn make_in_tree<N: Nodes<Item = O::Item>, O: Ops>(
         AllStand N.Machine (O.meaning ops.now) published subscriptions.old.items pasts → AllStand N.Machine (O.meaning ops.now) published subscriptions.new.items pasts) }
     ensures enabled { OnOk result (enabled_at N.Machine N.Nodes.own (O.meaning ops.now) subscriptions.old.items sub.0 step ≡ true) }
     ensures effect { OnOk result (IsMadeAt N.Machine N.Nodes.own (O.meaning ops.now) step sub.0 subscriptions.old.items subscriptions.new.items None) }
+    ensures alone { OnOk result (IsAloneAt N.Machine N.Nodes.own (O.meaning ops.now) step sub.0 subscriptions.old.items subscriptions.new.items) }
     ensures err { IfErr result (λ r. IsSubMoveRefusal (length subscriptions.old.items) (enabled_at N.Machine N.Nodes.own (O.meaning ops.now) subscriptions.old.items sub.0 step) sub r) }
     ensures memory { allocates_at N.Machine N.Nodes.own (O.allocates ops.now) subscriptions.old.items sub.0 step ≡ false → IfErr result (λ r. r ≢ Refusal.NoMemory) }
     ensures same { OnErr result (subscriptions.new.items ≡ subscriptions.old.items) }

@@ -3,6 +3,7 @@
 pub mod Accepted
 pub mod Accepts
 pub mod AllAtOnce
+pub mod Alone
 pub mod Calls
 pub mod Graphs
 pub mod Handing

@@ -5,7 +5,7 @@ use Rattle.rsx_graph_state.specs.declared.refusal.Refusal.{Refusal}
 use Rattle.rsx_graph_state.specs.declared.refusal.Refusal.TheVariants.{UnknownHub, NotEnabled, NoMemory}
 use Rattle.rsx_hub.specs.Hub.{HubState}
 use Rattle.rsx_subscriber.specs.Prelude.{IsMadeInside, inside_enabled, next_out, NodeMove, Ask as NodeAsk, Send as NodeSend, Pick as NodePick, Row as NodeRow}
-use Rattle.rsx_pipe.specs.Part.{Part, make_allocates}
+use Rattle.rsx_pipe.specs.Part.{IsAlone, Part, make_allocates}
 use Rattle.rsx_graph_state.specs.Publishing.{IsAccepted, can_accept}
 use Rattle.rsx_graph_state.specs.Sending.{IsFed, can_feed}
 use Rattle.rsx_graph_state.specs.declared.feed.Feed.{Feed}
@@ -88,6 +88,12 @@ pub record IsWorkedAt {M T : Type 0} (mc : Machine M T) (m : Meaning T) (step : 
   pub there : slice_get feeds at ≡ Some feed
   pub effect : IsMadeInside mc m step feed.part part
   pub others : news ≡ set feeds at (record { part = part; hub = feed.hub })
+
+-- What a call that makes just this move inside the feed of the hub with this number says of that feed besides: no step of a node was made
+-- besides. A signal that goes into the hub is only taken out of the feed, and each node that reads the hub is what it says of that signal.
+abbrev pub IsAloneInFeed : {M T : Type 0} → Machine M T → Meaning T → NodeMove → ℕ → List (Feed M) → List (Feed M) → Type 0
+IsAloneInFeed {M} mc m step h feeds news =
+    (at : ℕ) (old new : Feed M) → place_of feeds h ≡ Some at → slice_get feeds at ≡ Some old → slice_get news at ≡ Some new → IsAlone mc m step old.part new.part
 
 -- and nothing else did
 pub record IsMadeInFeed {M T : Type 0} (mc : Machine M T) (m : Meaning T) (step : NodeMove) (h : ℕ) (old new : Rows M T) : Type 0 where

@@ -4,7 +4,7 @@ use Rattle.rsx_rooted.specs.declared.nodes.Nodes.{Ghosts as Nodes}
 use Rattle.std.specs.Prelude.{◌≡◌, ℕ, Bool, false, ◌||◌, nat_eq, if◌then◌else◌, List, [], ◌∷◌, Option, Some, ◌-◌, slice_get, ℤ, zero, suc, slice_set}
 use Rattle.rsx_sources.specs.Prelude.{Meaning, Allocates, Stream, Note, SubId, Tree, Sub, Feed, Move, Signal}
 use Rattle.rsx_pipe.specs.Part as Part
-use Rattle.rsx_subscriber.specs.Prelude.{notes_of, IsRequested, IsCancelled, Past, request_answer, Stands, standing_of, make_allocates, move_enabled_in, owes_in, IsEffect}
+use Rattle.rsx_subscriber.specs.Prelude.{notes_of, IsRequested, IsCancelled, Past, request_answer, Stands, standing_of, make_allocates, move_enabled_in, owes_in, IsAlone, IsEffect}
 use Rattle.rsx_subscriber.specs.declared.subscription.Subscription.{Subscription}
 
 -- each subscription stands for its own past
@@ -77,6 +77,11 @@ pub record IsMadeAt {M T : Type 0} (mc : Machine M T) (kd : Nodes M T) (m : Mean
   pub there : slice_get subs i ≡ Some old
   pub effect : IsEffect mc kd m mv old new o
   pub others : news ≡ slice_set subs i new
+
+-- what a call that makes just this move there says of that subscription besides: no step of a node was made besides
+abbrev pub IsAloneAt : {M T : Type 0} → Machine M T → Nodes M T → Meaning T → Move → ℕ → List (Subscription M T) → List (Subscription M T) → Type 0
+IsAloneAt {M} {T} mc kd m mv i subs news =
+    (old new : Subscription M T) → slice_get subs i ≡ Some old → slice_get news i ≡ Some new → IsAlone mc kd m mv old new
 
 -- a move was made in its tree
 abbrev pub IsMade : {M T : Type 0} → Machine M T → Nodes M T → Meaning T → Move → Tree → List (Subscription M T) → List (Subscription M T) → Option (SubId × Signal T) → Type 0

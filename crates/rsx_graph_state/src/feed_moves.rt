@@ -5,7 +5,7 @@ ghost use Rattle.rsx_sources.specs.Steps.{IsNotMade};
 ghost use Rattle.rsx_tree.specs.Refusals.{OnlyNotEnabled};
 ghost use Rattle.rsx_graph_state.specs.History.{History};
 ghost use Rattle.rsx_graph_state.specs.Moves as moves;
-ghost use Rattle.rsx_graph_state.specs.Moves.{IsFedAt, IsFeedMoved, IsFeedRefusal, IsWorkedAt, allocates_inside, feed_allocates, feed_enabled, has_feed, rows_of, sends, with_feed_moved, works};
+ghost use Rattle.rsx_graph_state.specs.Moves.{IsAloneInFeed, IsFedAt, IsFeedMoved, IsFeedRefusal, IsWorkedAt, allocates_inside, feed_allocates, feed_enabled, has_feed, rows_of, sends, with_feed_moved, works};
 ghost use Rattle.rsx_graph_state.specs.Stands as spec;
 ghost use Rattle.rsx_graph_state.specs.Stands.{StandsFor};
 ghost use Rattle.rsx_graph_state.specs.SubscriptionSet.{NoneReads};
@@ -42,6 +42,7 @@ pub fn make_in_feed<N: Nodes<Item = O::Item>, O: Ops>(
         StandsFor N.Machine (O.meaning ops.now) (rows_of hubs.new.items feeds.new.items subscriptions.new.items)
         (with_feed_moved N.Machine (O.meaning ops.now) (rows_of hubs.old.items feeds.old.items subscriptions.old.items) step hub.0 h)) }
     ensures effect { OnOk result (IsFeedMoved N.Machine (O.meaning ops.now) step hub.0 (rows_of hubs.old.items feeds.old.items subscriptions.old.items) (rows_of hubs.new.items feeds.new.items subscriptions.new.items)) }
+    ensures alone { OnOk result (IsAloneInFeed N.Machine (O.meaning ops.now) step hub.0 feeds.old.items feeds.new.items) }
     ensures enabled { OnOk result (feed_enabled N.Machine (O.meaning ops.now) (rows_of hubs.old.items feeds.old.items subscriptions.old.items) hub.0 step ≡ true) }
     ensures err { IfErr result (IsFeedRefusal (has_feed (rows_of hubs.old.items feeds.old.items subscriptions.old.items) hub.0)
         (feed_enabled N.Machine (O.meaning ops.now) (rows_of hubs.old.items feeds.old.items subscriptions.old.items) hub.0 step)) }
@@ -180,6 +181,7 @@ pub fn work_in_feed<N: Nodes<Item = O::Item>, O: Ops>(
     requires place { spec.place_of feeds.old.items hub.0 ≡ Some at }
     ensures count { length feeds.new.items ≡ length feeds.old.items }
     ensures effect { OnOk result (IsWorkedAt N.Machine (O.meaning ops.now) step hub.0 feeds.old.items feeds.new.items) }
+    ensures alone { OnOk result (IsAloneInFeed N.Machine (O.meaning ops.now) step hub.0 feeds.old.items feeds.new.items) }
     ensures enabled { OnOk result (works N.Machine (O.meaning ops.now) feeds.old.items hub.0 step ≡ true) }
     ensures err { IfErr result (IsNotMade (works N.Machine (O.meaning ops.now) feeds.old.items hub.0 step)) }
     ensures memory { allocates_inside N.Machine (O.allocates ops.now) (spec.feed_of feeds.old.items hub.0) step ≡ false → OnlyNotEnabled result }

@@ -145,7 +145,7 @@ impl<T: Drop> Holds<T> for HubLeaf<T> {
 impl<T: Drop> Machine for HubLeaf<T> {
     type Item = T;
 
-    ghost use Rattle.std.specs.Prelude.{◌≡◌, refl, Some, None, true, false, IfOk, IfErr, OnOk, OnErr};
+    ghost use Rattle.std.specs.Prelude.{◌≡◌, ⊤, refl, Some, None, true, false, IfOk, IfErr, OnOk, OnErr};
     ghost use Rattle.rsx_types.specs.declared.note.Note.TheVariants.{Nothing};
     ghost use Rattle.rsx_sources.specs.Counts.{CountsStep};
     ghost use Rattle.rsx_sources.specs.Machine.{TakesIn};
@@ -169,6 +169,12 @@ impl<T: Drop> Machine for HubLeaf<T> {
     ghost rows = { λ n a s. false };
 
     ghost rowed = { λ n a s k. ⊥ };
+
+    ghost took = { λ n i s new. ⊤ };
+
+    ghost heard = { λ n s new. ⊤ };
+
+    ghost picked = { λ n i new. ⊤ };
 
     ghost recording = { λ n i. Nothing };
 

@@ -1,4 +1,5 @@
 -- A node of any kind makes the batches that its kind makes.
+use Rattle.std.specs.Prelude.{⊤}
 use Rattle.std.proofs.Common.{◌≡◌, ℕ, suc, Bool, true, false, if◌then◌else◌, None, List, [], ◌∷◌, length, Some, inl, inr, refl, ap, sym, ◌∙◌, subst, arith}
 use Rattle.std.proofs.lemmas.Bool.{true≢false}
 use Rattle.rsx_hub.specs.Leaf.{LeafState}
@@ -22,7 +23,7 @@ use Rattle.rsx_kinds.specs.declared.any_node.AnyNode.{AnyNode}
 use Rattle.rsx_kinds.specs.declared.any_node.AnyNode.TheVariants.{Source, Plain, Several, PublishOn, PublishOnEager, Window, FlatMap, FlatMapDelay, GroupBy}
 use Rattle.rsx_kinds.specs.declared.source_node.SourceNode.{SourceNode}
 use Rattle.rsx_kinds.specs.declared.source_node.SourceNode.TheVariants.{Items, Range, Hub}
-use Rattle.rsx_kinds.specs.Several.{several_comes_out, several_waiting, several_shown, several_takes, several_picks, several_rows, several_rowed, several_recording, several_recorded, several_ended, several_done, several_counted, several_wanted, several_popped, several_step_allocates}
+use Rattle.rsx_kinds.specs.Several.{several_comes_out, several_waiting, several_shown, several_takes, several_picks, several_rows, several_rowed, several_took, several_picked, several_recording, several_recorded, several_ended, several_done, several_counted, several_wanted, several_popped, several_step_allocates}
 use Rattle.rsx_kinds.specs.declared.several_node.SeveralNode.{SeveralNode}
 use Rattle.rsx_kinds.specs.declared.several_node.SeveralNode.TheVariants.{Concat, Merge, Latest}
 use Rattle.rsx_merging.specs.Concat.{after_all_passed, after_passed, concat_takes}
@@ -51,6 +52,9 @@ source_machine = record {
   picks = λ n i a s. false;
   rows = λ n a s. false;
   rowed = λ n a s k. ⊥;
+  took = λ n i s new. ⊤;
+  heard = λ n s new. ⊤;
+  picked = λ n i new. ⊤;
   recording = λ n i. Nothing;
   recorded = λ n. Nothing;
   popping = λ n. None;
@@ -166,6 +170,9 @@ several_machine = record {
   picks = several_picks;
   rows = several_rows;
   rowed = several_rowed;
+  took = several_took;
+  heard = λ n s new. ⊤;
+  picked = several_picked;
   recording = several_recording;
   recorded = several_recorded;
   popping = λ n. None;

@@ -21,6 +21,7 @@ hub_item s t x h =
         recorded = k.recorded;
         counts = record { stays_ended = k.counts.stays_ended; counts = k.counts.counts; stays_done = k.counts.stays_done };
         calls = k.calls;
+        heard = k.heard;
       };
     }
 
@@ -40,6 +41,7 @@ source_item s t x h =
         recorded = k.recorded;
         counts = record { stays_ended = k.counts.stays_ended; counts = k.counts.counts; stays_done = k.counts.stays_done };
         calls = k.calls;
+        heard = k.heard;
       };
     }
 

@@ -1,13 +1,13 @@
 -- A node of any kind: its meaning is that of its kind. A node of a tree is one of any kind, with the queue of its edge where that
 -- crosses to another region.
-use Rattle.std.specs.Prelude.{ℕ, Bool, true, false, List, Option, None}
+use Rattle.std.specs.Prelude.{⊤, ℕ, Bool, true, false, List, Option, None}
 use Rattle.rsx_sources.specs.Prelude.{Note, Nothing, Signal, Meaning, Allocates, Stream, Incoming, Reading}
 use Rattle.rsx_sources.specs.declared.machine.Front.{Front}
 use Rattle.rsx_sources.specs.declared.machine.Machine.{Ghosts as Machine}
 use Rattle.rsx_queued.specs.declared.sender.Sender.{Sender}
-use Rattle.rsx_queued.specs.Sender.{is_crossing, sender_comes_out, sender_waiting, sender_shown, sender_takes, sender_picks, sender_rows, sender_rowed, sender_recording, sender_recorded, sender_popping, sender_ended, sender_done, sender_counted, sender_wanted, sender_accepts, sender_popped, sender_reads, sender_rooms, sender_pop_allocates, sender_signal_allocates, sender_step_allocates}
+use Rattle.rsx_queued.specs.Sender.{is_crossing, sender_comes_out, sender_waiting, sender_shown, sender_takes, sender_picks, sender_rows, sender_rowed, sender_took, sender_heard, sender_picked, sender_recording, sender_recorded, sender_popping, sender_ended, sender_done, sender_counted, sender_wanted, sender_accepts, sender_popped, sender_reads, sender_rooms, sender_pop_allocates, sender_signal_allocates, sender_step_allocates}
 use Rattle.rsx_plain.specs.Node.{plain_comes_out, plain_waiting, plain_shown, plain_popped, plain_takes, plain_wanted, plain_ended, plain_allocates, plain_counted}
-use Rattle.rsx_kinds.specs.Several.{several_comes_out, several_waiting, several_shown, several_takes, several_picks, several_rows, several_rowed, several_recording, several_recorded, several_ended, several_done, several_counted, several_wanted, several_popped, several_step_allocates}
+use Rattle.rsx_kinds.specs.Several.{several_comes_out, several_waiting, several_shown, several_takes, several_picks, several_rows, several_rowed, several_took, several_picked, several_recording, several_recorded, several_ended, several_done, several_counted, several_wanted, several_popped, several_step_allocates}
 use Rattle.rsx_merging.specs.PublishOn.{publish_comes_out, publish_waiting, publish_shown, publish_popped, publish_takes, publish_wanted, publish_ended, publish_counted}
 use Rattle.rsx_window.specs.Window.{window_comes_out, window_waiting, window_shown, window_takes, window_ended, window_done, window_wanted, IsPoppedWindow, CountsItems}
 use Rattle.rsx_delayed.specs.FlatMapDelay.{flat_delay_comes_out, flat_delay_waiting, flat_delay_shown, flat_delay_takes, flat_delay_picks, flat_delay_recording, flat_delay_recorded, flat_delay_ended, flat_delay_done, flat_delay_counted, flat_delay_wanted, flat_delay_popped}
@@ -94,6 +94,18 @@ any_rows (GroupBy n) asked sent = false
 abbrev pub any_rowed : {T : Type 0} → AnyNode T → ℕ → ℕ → AnyNode T → Type 0
 any_rowed (Several a) asked sent (Several b) = several_rowed a asked sent b
 any_rowed a asked sent b = ⊥
+
+-- what it is once it took in a signal of an input, and once it picked one: only a node of several inputs could make a step of which
+-- nothing is recorded
+abbrev pub any_took : {T : Type 0} → AnyNode T → ℕ → Signal T → AnyNode T → Type 0
+any_took (Several a) i s (Several b) = several_took a i s b
+any_took (Several a) i s b = ⊥
+any_took a i s b = ⊤
+
+abbrev pub any_picked : {T : Type 0} → AnyNode T → ℕ → AnyNode T → Type 0
+any_picked (Several a) i (Several b) = several_picked a i b
+any_picked (Several a) i b = ⊥
+any_picked a i b = ⊤
 
 -- what picking an input adds to what it recorded
 abbrev pub any_recording : {T : Type 0} → AnyNode T → ℕ → Note
@@ -262,6 +274,9 @@ kind_machine = record {
   picks = any_picks;
   rows = any_rows;
   rowed = any_rowed;
+  took = any_took;
+  heard = λ n s new. ⊤;
+  picked = any_picked;
   recording = any_recording;
   recorded = any_recorded;
   popping = any_popping;
@@ -293,6 +308,9 @@ any_machine = record {
   picks = sender_picks kind_machine;
   rows = sender_rows kind_machine;
   rowed = sender_rowed kind_machine;
+  took = sender_took kind_machine;
+  heard = sender_heard kind_machine;
+  picked = sender_picked kind_machine;
   recording = sender_recording kind_machine;
   recorded = sender_recorded kind_machine;
   popping = sender_popping kind_machine;

@@ -1,12 +1,12 @@
 -- A node of several inputs of any kind: its meaning is that of its kind.
-use Rattle.std.specs.Prelude.{ℕ, Bool, true, false, List, Option}
+use Rattle.std.specs.Prelude.{◌≡◌, ⊤, ℕ, Bool, true, false, List, Option}
 use Rattle.rsx_sources.specs.Prelude.{Note, Nothing, Signal, Meaning, Allocates, Stream, Incoming}
 use Rattle.rsx_sources.specs.declared.machine.Front.{Front}
 use Rattle.rsx_merging.specs.Concat.{concat_comes_out, concat_waiting, concat_shown, concat_takes, concat_ended, concat_done, concat_wanted, concat_popped, IsInTurn}
 use Rattle.rsx_merging.specs.Merge.{merge_comes_out, merge_waiting, merge_shown, merge_takes, merge_picks, merge_recording, merge_recorded, merge_ended, merge_done, merge_counted, merge_wanted, merge_popped}
 use Rattle.rsx_delayed.specs.MergeDelay.{delayed_comes_out, delayed_waiting, delayed_shown, delayed_takes, delayed_picks, delayed_recording, delayed_recorded, delayed_ended, delayed_done, delayed_counted, delayed_wanted, delayed_popped}
-use Rattle.rsx_combining.specs.Zip.{zip_comes_out, zip_waiting, zip_shown, zip_takes, zip_picks, zip_rows, IsZipRow, zip_recording, zip_recorded, zip_ended, zip_done, IsZipCounted, zip_wanted, zip_popped, zip_step_allocates}
-use Rattle.rsx_combining.specs.Latest.{latest_comes_out, latest_waiting, latest_shown, latest_takes, latest_picks, latest_recording, latest_recorded, latest_ended, latest_done, IsLatestCounted, latest_wanted, latest_popped}
+use Rattle.rsx_combining.specs.Zip.{zip_comes_out, zip_waiting, zip_shown, zip_takes, zip_with_signal, zip_picks, IsZipPick, zip_rows, IsZipRow, zip_recording, zip_recorded, zip_ended, zip_done, IsZipCounted, zip_wanted, zip_popped, zip_step_allocates}
+use Rattle.rsx_combining.specs.Latest.{latest_comes_out, latest_waiting, latest_shown, latest_takes, latest_with_signal, latest_picks, latest_recording, latest_recorded, latest_ended, latest_done, IsLatestCounted, latest_wanted, latest_popped}
 use Rattle.rsx_kinds.specs.declared.several_node.SeveralNode.{SeveralNode}
 use Rattle.rsx_kinds.specs.declared.several_node.SeveralNode.TheVariants.{Concat, Merge, MergeDelay, Zip, Latest}
 
@@ -62,6 +62,25 @@ several_rows (Latest n) asked sent = false
 abbrev pub several_rowed : {T : Type 0} → SeveralNode T → ℕ → ℕ → SeveralNode T → Type 0
 several_rowed (Zip n) asked sent (Zip k) = IsZipRow n asked sent k
 several_rowed n asked sent k = ⊥
+
+-- what it is once it took in a signal of an input. A zip made no row by that, and a combineLatest picked nothing; each other kind
+-- records each step that it could make.
+abbrev pub several_took : {T : Type 0} → SeveralNode T → ℕ → Signal T → SeveralNode T → Type 0
+several_took (Concat n) i s k = ⊤
+several_took (Merge n) i s k = ⊤
+several_took (MergeDelay n) i s k = ⊤
+several_took (Zip n) i s (Zip k) = k ≡ zip_with_signal n i s
+several_took (Latest n) i s (Latest k) = k ≡ latest_with_signal n i s
+several_took n i s k = ⊥
+
+-- what it is once it picked an input
+abbrev pub several_picked : {T : Type 0} → SeveralNode T → ℕ → SeveralNode T → Type 0
+several_picked (Concat n) i k = ⊤
+several_picked (Merge n) i k = ⊤
+several_picked (MergeDelay n) i k = ⊤
+several_picked (Zip n) i (Zip k) = IsZipPick n i k
+several_picked (Zip n) i k = ⊥
+several_picked (Latest n) i k = ⊤
 
 -- what picking an input adds to what it recorded
 abbrev pub several_recording : {T : Type 0} → SeveralNode T → ℕ → Note

@@ -39,14 +39,14 @@ pub enum AnyNode<T> {
 impl<T: Drop> Machine for AnyNode<T> {
     type Item = T;
 
-    ghost use Rattle.std.specs.Prelude.{◌≡◌, true, false, IfOk, IfErr, IsOk, OnOk, OnErr, Some};
+    ghost use Rattle.std.specs.Prelude.{◌≡◌, ⊤, true, false, IfOk, IfErr, IsOk, OnOk, OnErr, Some};
     ghost use Rattle.rsx_types.specs.Notes.{note_then};
     ghost use Rattle.rsx_sources.specs.Counts.{CountsIn, CountsOut, CountsStep};
     ghost use Rattle.rsx_sources.specs.Machine.{TakesIn, front_of};
     ghost use Rattle.rsx_sources.specs.Popping.{IsPoppedBy, IsRecordedBy};
     ghost use Rattle.rsx_sources.specs.Reading.{IsReadOn, IsResidualOf, takes_published};
     ghost use Rattle.rsx_sources.specs.Steps.{IsNotTaken, IsSameKind, StaysAlike};
-    ghost use Rattle.rsx_kinds.specs.Any.{any_comes_out, any_waiting, any_shown, any_takes, any_picks, any_rows, any_rowed, any_recording, any_recorded, any_popping, any_ended, any_done, any_counted, any_wanted, any_popped, any_reads, any_rooms, any_pop_allocates, any_signal_allocates, any_step_allocates};
+    ghost use Rattle.rsx_kinds.specs.Any.{any_comes_out, any_waiting, any_shown, any_takes, any_picks, any_rows, any_rowed, any_took, any_picked, any_recording, any_recorded, any_popping, any_ended, any_done, any_counted, any_wanted, any_popped, any_reads, any_rooms, any_pop_allocates, any_signal_allocates, any_step_allocates};
     ghost use Rattle.rsx_kinds.specs.Laws.{any_shows, any_drops, any_ends, any_ends_reading, any_done_drops, any_settles, any_ending_waits, any_hungry, any_popped_alike};
     ghost use Rattle.rsx_kinds.specs.declared.any_node.AnyNode.{AnyNode};
     ghost use Rattle.std.proofs.lemmas.Bool.{true≢false};
@@ -64,6 +64,12 @@ impl<T: Drop> Machine for AnyNode<T> {
     ghost rows = { any_rows };
 
     ghost rowed = { any_rowed };
+
+    ghost took = { any_took };
+
+    ghost heard = { λ n s new. ⊤ };
+
+    ghost picked = { any_picked };
 
     ghost recording = { any_recording };
 
@@ -209,6 +215,7 @@ impl<T: Drop> Machine for AnyNode<T> {
     ) -> Result<(), NotTaken<T>>
         ensures ok { OnOk result (TakesIn (any_comes_out (O.meaning ops.now)) self.old input signal self.new) }
         ensures enabled { OnOk result (any_takes self.old input (front_of signal) ≡ true) }
+        ensures made { OnOk result (any_took self.old input signal self.new) }
         ensures recorded { any_recorded self.new ≡ any_recorded self.old }
         ensures counts { OnOk result (CountsIn any_counted any_ended any_done self.old input signal self.new) }
         ensures err { IfErr result (IsNotTaken (any_takes self.old input (front_of signal)) signal) }

@@ -80,6 +80,12 @@ impl<N: Machine> Machine for Boxed<N> {
 
     ghost rowed = { N.rowed };
 
+    ghost took = { N.took };
+
+    ghost heard = { N.heard };
+
+    ghost picked = { N.picked };
+
     ghost recording = { N.recording };
 
     ghost recorded = { N.recorded };
@@ -155,6 +161,7 @@ impl<N: Machine> Machine for Boxed<N> {
     ) -> Result<(), NotTaken<Self::Item>>
         ensures ok { OnOk result (TakesIn (N.comes_out (O.meaning ops.now)) self.old input signal self.new) }
         ensures enabled { OnOk result (N.takes self.old input (front_of signal) ≡ true) }
+        ensures made { OnOk result (N.took self.old input signal self.new) }
         ensures recorded { N.recorded self.new ≡ N.recorded self.old }
         ensures counts { OnOk result (CountsIn N.counted N.ended N.done self.old input signal self.new) }
         ensures err { IfErr result (IsNotTaken (N.takes self.old input (front_of signal)) signal) }
@@ -196,6 +203,7 @@ impl<N: Machine> Machine for Boxed<N> {
     fn on_published(&mut self, signal: Signal<Self::Item>) -> Result<(), Signal<Self::Item>>
         ensures ok { OnOk result (IsReadOn N.comes_out N.reads self.old signal self.new) }
         ensures enabled { OnOk result (takes_published (N.reads self.old) (N.rooms self.old) signal ≡ true) }
+        ensures made { OnOk result (N.heard self.old signal self.new) }
         ensures recorded { N.recorded self.new ≡ N.recorded self.old }
         ensures counts { OnOk result (CountsStep N.counted N.ended N.done self.old self.new) }
         ensures refused { OnErr result (takes_published (N.reads self.old) (N.rooms self.old) signal ≡ false) }

@@ -70,14 +70,14 @@ impl<T: Drop> SeveralNode<T> {
 impl<T: Drop> Machine for SeveralNode<T> {
     type Item = T;
 
-    ghost use Rattle.std.specs.Prelude.{◌≡◌, true, false, refl, None, IfOk, IfErr, IsOk, OnOk, OnErr};
+    ghost use Rattle.std.specs.Prelude.{◌≡◌, ⊤, true, false, refl, None, IfOk, IfErr, IsOk, OnOk, OnErr};
     ghost use Rattle.rsx_types.specs.Notes.{note_then};
     ghost use Rattle.rsx_sources.specs.Counts.{CountsIn, CountsOut, CountsStep};
     ghost use Rattle.rsx_sources.specs.Machine.{TakesIn, Records, Keeps, IsComposed, front_of};
     ghost use Rattle.rsx_sources.specs.Reading.{IsReadOn, IsResidualOf};
     ghost use Rattle.rsx_sources.specs.Steps.{IsPopped, IsNotTaken, IsNotMade, StaysAlike};
     ghost use Rattle.rsx_kinds.specs.SeveralLaws.{several_shows, several_popped_alike, several_drops, several_ends, several_done_drops, several_settles, several_ending_waits, several_hungry};
-    ghost use Rattle.rsx_kinds.specs.Several.{several_comes_out, several_waiting, several_shown, several_takes, several_picks, several_rows, several_rowed, several_recording, several_recorded, several_ended, several_done, several_counted, several_wanted, several_popped, several_step_allocates};
+    ghost use Rattle.rsx_kinds.specs.Several.{several_comes_out, several_waiting, several_shown, several_takes, several_picks, several_rows, several_rowed, several_took, several_picked, several_recording, several_recorded, several_ended, several_done, several_counted, several_wanted, several_popped, several_step_allocates};
     ghost use Rattle.rsx_kinds.specs.declared.several_node.SeveralNode.{SeveralNode};
     ghost use Rattle.std.proofs.lemmas.Bool.{true≢false};
 
@@ -94,6 +94,12 @@ impl<T: Drop> Machine for SeveralNode<T> {
     ghost rows = { several_rows };
 
     ghost rowed = { several_rowed };
+
+    ghost took = { several_took };
+
+    ghost heard = { λ n s new. ⊤ };
+
+    ghost picked = { several_picked };
 
     ghost recording = { several_recording };
 
@@ -199,6 +205,7 @@ impl<T: Drop> Machine for SeveralNode<T> {
     ) -> Result<(), NotTaken<T>>
         ensures ok { OnOk result (TakesIn (several_comes_out (O.meaning ops.now)) self.old input signal self.new) }
         ensures enabled { OnOk result (several_takes self.old input (front_of signal) ≡ true) }
+        ensures made { OnOk result (several_took self.old input signal self.new) }
         ensures recorded { several_recorded self.new ≡ several_recorded self.old }
         ensures counts { OnOk result (CountsIn several_counted several_ended several_done self.old input signal self.new) }
         ensures err { IfErr result (IsNotTaken (several_takes self.old input (front_of signal)) signal) }

@@ -21,7 +21,7 @@ pub enum SourceNode<T> {
 impl<T: Drop> Machine for SourceNode<T> {
     type Item = T;
 
-    ghost use Rattle.std.specs.Prelude.{◌≡◌, true, false, None, IfOk, IfErr, IsOk, OnOk, OnErr, Some};
+    ghost use Rattle.std.specs.Prelude.{◌≡◌, ⊤, true, false, None, IfOk, IfErr, IsOk, OnOk, OnErr, Some};
     ghost use Rattle.rsx_types.specs.declared.note.Note.TheVariants.{Nothing};
     ghost use Rattle.rsx_sources.specs.Counts.{CountsOut, CountsStep};
     ghost use Rattle.rsx_sources.specs.Machine.{TakesIn};
@@ -46,6 +46,12 @@ impl<T: Drop> Machine for SourceNode<T> {
     ghost rows = { λ n a s. false };
 
     ghost rowed = { λ n a s k. ⊥ };
+
+    ghost took = { λ n i s new. ⊤ };
+
+    ghost heard = { λ n s new. ⊤ };
+
+    ghost picked = { λ n i new. ⊤ };
 
     ghost recording = { λ n i. Nothing };
 

@@ -128,7 +128,7 @@ impl<T: Drop> MergeNode<T> {
 impl<T: Drop> Machine for MergeNode<T> {
     type Item = T;
 
-    ghost use Rattle.std.specs.Prelude.{◌≡◌, true, false, refl, None, IfOk, IfErr, IsOk, OnOk, OnErr};
+    ghost use Rattle.std.specs.Prelude.{◌≡◌, ⊤, true, false, refl, None, IfOk, IfErr, IsOk, OnOk, OnErr};
     ghost use Rattle.rsx_types.specs.Notes.{note_then};
     ghost use Rattle.rsx_sources.specs.Counts.{CountsIn, CountsOut, CountsStep};
     ghost use Rattle.rsx_sources.specs.Machine.{TakesIn, Records, IsComposed, front_of};
@@ -153,6 +153,12 @@ impl<T: Drop> Machine for MergeNode<T> {
     ghost rows = { λ n a s. false };
 
     ghost rowed = { λ n a s k. ⊥ };
+
+    ghost took = { λ n i s new. ⊤ };
+
+    ghost heard = { λ n s new. ⊤ };
+
+    ghost picked = { λ n i new. ⊤ };
 
     ghost recording = { merge_recording };
 

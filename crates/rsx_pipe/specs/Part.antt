@@ -8,7 +8,7 @@ use Rattle.rsx_sources.specs.declared.machine.Machine.{Ghosts as Machine}
 use Rattle.rsx_tree.specs.declared.edge.EdgeState.TheVariants.{Live, Closed, Ended}
 use Rattle.rsx_tree.specs.Rests.{TreeHasReadAll}
 pub use Rattle.rsx_rooted.specs.Output.{has_room}
-pub use Rattle.rsx_rooted.specs.Rooted.{evaluated, all_edges, sent_at, IsNumbered, Stands as PartStands, ask_enabled, send_enabled, pick_enabled, row_enabled, move_enabled, make_allocates, pump_allocates, wanted, offered, receiver_ended, IsAsk, GoesOut, IsSend, IsPick, IsRow, IsEffect, IsPutOut, IsMoved, IsMade, IsMadeInto, IsMovedBy, IsMovedOver, IsPumped, IsQuiet, IsAwake, HasEnded, IsSpent, IsResidualOf as IsPartResidual, no_room, queue_sink}
+pub use Rattle.rsx_rooted.specs.Rooted.{evaluated, all_edges, sent_at, IsNumbered, Stands as PartStands, ask_enabled, send_enabled, pick_enabled, row_enabled, move_enabled, make_allocates, pump_allocates, wanted, offered, receiver_ended, IsAsk, GoesOut, IsSend, IsPick, IsRow, IsEffect, IsAlone, IsPutOut, IsMoved, IsMade, IsMadeInto, IsMovedBy, IsMovedOver, IsPumped, IsQuiet, IsAwake, HasEnded, IsSpent, IsResidualOf as IsPartResidual, no_room, queue_sink}
 use Rattle.rsx_rooted.specs.declared.rooted.Rooted.{Rooted}
 use Rattle.rsx_pipe.specs.Output.{items_in, values_then}
 use Rattle.rsx_pipe.specs.Tree.{notes_of, IsWithin}

@@ -63,7 +63,7 @@ impl<N: Nodes> Part<N> {
     ghost use Rattle.rsx_pipe.specs.Tree.{notes_of, IsAllClosed, IsAlike, IsKept};
     ghost use Rattle.rsx_pipe.specs.Fetched.{IsFetched};
     ghost use Rattle.rsx_tree.specs.Refusals.{OnlyNotEnabled};
-    ghost use Rattle.rsx_pipe.specs.Part.{pump_allocates, PartStands, IsPutOut, IsMadeInto, IsPumped, IsQuiet, IsAwake, HasEnded, IsDelivered, IsPartResidual, make_allocates, all_edges, move_enabled, IsNumbered};
+    ghost use Rattle.rsx_pipe.specs.Part.{pump_allocates, PartStands, IsAlone, IsPutOut, IsMadeInto, IsPumped, IsQuiet, IsAwake, HasEnded, IsDelivered, IsPartResidual, make_allocates, all_edges, move_enabled, IsNumbered};
 
     /// The part of this tree, before anything was asked of it. Where the tree was made for an expression over some hubs, so is the
     /// part.
@@ -152,6 +152,7 @@ impl<N: Nodes> Part<N> {
         out: &mut S,
     ) -> Result<(), NotMade>
         ensures made { OnOk result (IsMadeInto N.Machine S.Sink (O.meaning ops.now) step self.old out.old self.new out.new) }
+        ensures alone { OnOk result (IsAlone N.Machine (O.meaning ops.now) step self.old self.new) }
         ensures enabled { OnOk result (move_enabled N.Machine (O.meaning ops.now) self.old (S.Sink.room out.old) step ≡ true) }
         ensures err { IfErr result (IsNotMade (move_enabled N.Machine (O.meaning ops.now) self.old (S.Sink.room out.old) step)) }
         ensures memory { make_allocates N.Machine (O.allocates ops.now) self.old step ≡ false → OnlyNotEnabled result }

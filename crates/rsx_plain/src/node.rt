@@ -50,7 +50,7 @@ impl<T: Drop> PlainNode<T> {
 impl<T: Drop> Machine for PlainNode<T> {
     type Item = T;
 
-    ghost use Rattle.std.specs.Prelude.{◌≡◌, true, false, refl, None, IfOk, IfErr, IsOk, IsTrue, OnOk, OnErr};
+    ghost use Rattle.std.specs.Prelude.{◌≡◌, ⊤, true, false, refl, None, IfOk, IfErr, IsOk, IsTrue, OnOk, OnErr};
     ghost use Rattle.rsx_plain.specs.Laws.{plain_drops, plain_ends, plain_ending_waits, plain_hungry, plain_popped_alike};
     ghost use Rattle.rsx_types.specs.Meaning.{Meaning, Allocates};
     ghost use Rattle.rsx_types.specs.Notes.{note_then};
@@ -79,6 +79,12 @@ impl<T: Drop> Machine for PlainNode<T> {
     ghost rows = { λ n a s. false };
 
     ghost rowed = { λ n a s k. ⊥ };
+
+    ghost took = { λ n i s new. ⊤ };
+
+    ghost heard = { λ n s new. ⊤ };
+
+    ghost picked = { λ n i new. ⊤ };
 
     ghost recording = { λ n i. Nothing };
 

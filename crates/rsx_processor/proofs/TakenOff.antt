@@ -17,6 +17,7 @@ left_item a b s t x h =
         recorded = k.recorded;
         counts = record { stays_ended = k.counts.stays_ended; counts = k.counts.counts; stays_done = k.counts.stays_done };
         calls = k.calls;
+        heard = k.heard;
       };
     }
 
@@ -30,6 +31,7 @@ right_item a b s t x h =
         recorded = k.recorded;
         counts = record { stays_ended = k.counts.stays_ended; counts = k.counts.counts; stays_done = k.counts.stays_done };
         calls = k.calls;
+        heard = k.heard;
       };
     }
 

@@ -40,6 +40,12 @@ impl<A: Machine, B: Machine<Item = A::Item>> Machine for EitherNode<A, B> {
 
     ghost rowed = { (either A.Machine B.Machine).rowed };
 
+    ghost took = { (either A.Machine B.Machine).took };
+
+    ghost heard = { (either A.Machine B.Machine).heard };
+
+    ghost picked = { (either A.Machine B.Machine).picked };
+
     ghost recording = { (either A.Machine B.Machine).recording };
 
     ghost recorded = { (either A.Machine B.Machine).recorded };
@@ -131,6 +137,7 @@ impl<A: Machine, B: Machine<Item = A::Item>> Machine for EitherNode<A, B> {
     ) -> Result<(), NotTaken<A::Item>>
         ensures ok { OnOk result (TakesIn ((either A.Machine B.Machine).comes_out (O.meaning ops.now)) self.old input signal self.new) }
         ensures enabled { OnOk result ((either A.Machine B.Machine).takes self.old input (front_of signal) ≡ true) }
+        ensures made { OnOk result ((either A.Machine B.Machine).took self.old input signal self.new) }
         ensures recorded { (either A.Machine B.Machine).recorded self.new ≡ (either A.Machine B.Machine).recorded self.old }
         ensures counts { OnOk result (CountsIn (either A.Machine B.Machine).counted (either A.Machine B.Machine).ended (either A.Machine B.Machine).done self.old input signal self.new) }
         ensures err { IfErr result (IsNotTaken ((either A.Machine B.Machine).takes self.old input (front_of signal)) signal) }
@@ -183,6 +190,7 @@ impl<A: Machine, B: Machine<Item = A::Item>> Machine for EitherNode<A, B> {
     fn on_published(&mut self, signal: Signal<A::Item>) -> Result<(), Signal<A::Item>>
         ensures ok { OnOk result (IsReadOn (either A.Machine B.Machine).comes_out (either A.Machine B.Machine).reads self.old signal self.new) }
         ensures enabled { OnOk result (takes_published ((either A.Machine B.Machine).reads self.old) ((either A.Machine B.Machine).rooms self.old) signal ≡ true) }
+        ensures made { OnOk result ((either A.Machine B.Machine).heard self.old signal self.new) }
         ensures recorded { (either A.Machine B.Machine).recorded self.new ≡ (either A.Machine B.Machine).recorded self.old }
         ensures counts { OnOk result (CountsStep (either A.Machine B.Machine).counted (either A.Machine B.Machine).ended (either A.Machine B.Machine).done self.old self.new) }
         ensures refused { OnErr result (takes_published ((either A.Machine B.Machine).reads self.old) ((either A.Machine B.Machine).rooms self.old) signal ≡ false) }

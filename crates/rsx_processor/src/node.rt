@@ -57,7 +57,7 @@ fn end<T: Drop>(slot: &mut Option<Signal<T>>, ending: Signal<T>)
 impl<P: Processor<Item = T>, T: Drop> Machine for ProcessorNode<P, T> {
     type Item = T;
 
-    ghost use Rattle.std.specs.Prelude.{◌≡◌, true, false, refl, None, IfOk, IfErr, OnOk, OnErr};
+    ghost use Rattle.std.specs.Prelude.{◌≡◌, ⊤, true, false, refl, None, IfOk, IfErr, OnOk, OnErr};
     ghost use Rattle.rsx_types.specs.Meaning.{Allocates};
     ghost use Rattle.rsx_types.specs.declared.note.Note.TheVariants.{Nothing};
     ghost use Rattle.rsx_sources.specs.Counts.{CountsIn};
@@ -82,6 +82,12 @@ impl<P: Processor<Item = T>, T: Drop> Machine for ProcessorNode<P, T> {
     ghost rows = { λ n a s. false };
 
     ghost rowed = { λ n a s k. ⊥ };
+
+    ghost took = { λ n i s new. ⊤ };
+
+    ghost heard = { λ n s new. ⊤ };
+
+    ghost picked = { λ n i new. ⊤ };
 
     ghost recording = { λ n i. Nothing };
 

@@ -8,7 +8,7 @@ use Rattle.rsx_queued.specs.declared.sender.Sender.{Sender}
 use Rattle.rsx_queued.specs.declared.sender.Sender.TheVariants.{Direct, Crossing}
 use Rattle.rsx_queued.specs.QueuedLaws.{Shows, Drops, Ends, Settles, Waits, Hungers, DoneDrops, queued_shows, queued_popped_alike, queued_drops, queued_ends, queued_ends_reading, queued_done_drops, queued_settles, queued_ending_waits, queued_hungry, queued_enough}
 use Rattle.rsx_queued.specs.Queued.{queued_comes_out, queued_waiting, queued_shown, queued_takes, queued_picks, queued_rows, queued_recording, queued_ended, queued_done, queued_counted, queued_wanted, queued_accepts, queued_popped, queued_reads, queued_rooms, queued_allocates, queued_step_allocates}
-use Rattle.rsx_queued.specs.Transfer.{IsQueuedRow}
+use Rattle.rsx_queued.specs.Transfer.{IsQueuedPick, IsQueuedRow, queued_heard, queued_took}
 
 -- ---- its meaning is that of the node, or of the node with its queue
 
@@ -40,6 +40,21 @@ abbrev pub sender_rowed : {M T : Type 0} → Machine M T → Sender M T → ℕ 
 sender_rowed b (Direct x) asked sent (Direct y) = b.rowed x asked sent y
 sender_rowed b (Crossing x) asked sent (Crossing y) = IsQueuedRow b x asked sent y
 sender_rowed b x asked sent y = ⊥
+
+abbrev pub sender_took : {M T : Type 0} → Machine M T → Sender M T → ℕ → Signal T → Sender M T → Type 0
+sender_took b (Direct x) i s (Direct y) = b.took x i s y
+sender_took b (Crossing x) i s (Crossing y) = queued_took b x i s y
+sender_took b x i s y = ⊥
+
+abbrev pub sender_heard : {M T : Type 0} → Machine M T → Sender M T → Signal T → Sender M T → Type 0
+sender_heard b (Direct x) s (Direct y) = b.heard x s y
+sender_heard b (Crossing x) s (Crossing y) = queued_heard b x s y
+sender_heard b x s y = ⊥
+
+abbrev pub sender_picked : {M T : Type 0} → Machine M T → Sender M T → ℕ → Sender M T → Type 0
+sender_picked b (Direct x) i (Direct y) = b.picked x i y
+sender_picked b (Crossing x) i (Crossing y) = IsQueuedPick b x i y
+sender_picked b x i y = ⊥
 
 abbrev pub sender_recording : {M T : Type 0} → Machine M T → Sender M T → ℕ → Note
 sender_recording b (Direct n) i = b.recording n i

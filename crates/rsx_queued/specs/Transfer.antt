@@ -1,11 +1,12 @@
 -- A signal that went over the edge into its queue, and one that was taken from there.
-use Rattle.std.specs.Prelude.{◌≡◌, ℕ, ◌+◌, true, false, List, [], ◌∷◌, ◌++◌, Some}
+use Rattle.std.specs.Prelude.{◌≡◌, ℕ, ◌+◌, true, false, List, [], ◌∷◌, ◌++◌, Some, None}
+use Rattle.std.specs.Option.{is_some}
 use Rattle.rsx_sources.specs.Prelude.{Signal, Next, Complete, Error, Meaning, CountsOut, ends_input, LetsGo, front_of}
 use Rattle.rsx_sources.specs.declared.machine.Machine.{Ghosts as Machine}
 use Rattle.rsx_queued.specs.declared.queued.Queued.{Queued}
 use Rattle.rsx_queued.specs.declared.tail.Tail.{Tail}
 use Rattle.rsx_queued.specs.declared.tail.Tail.TheVariants.{Open, Completion, Failure}
-use Rattle.rsx_queued.specs.Queued.{queue_of, sent_over, is_ended, node_sent, can_transfer, queued_popped}
+use Rattle.rsx_queued.specs.Queued.{queue_of, sent_over, is_ended, node_sent, can_transfer, pop_note, queued_popped}
 
 -- an item goes behind the items, an ending behind them all
 abbrev pub IsPushed : {T : Type 0} → List T → Signal T → List T → Tail → Type 0
@@ -41,6 +42,19 @@ pub record IsMovedOver {M T : Type 0} (b : Machine M T) (old new : Queued M T) :
 pub record IsQueuedRow {M T : Type 0} (b : Machine M T) (old : Queued M T) (asked taken : ℕ) (new : Queued M T) : Type 0 where
   pub over : can_transfer b old asked taken ≡ true → IsMovedOver b old new
   pub inside : can_transfer b old asked taken ≡ false → IsQueueKept old new × b.rowed old.node asked (node_sent old.queue asked taken) new.node
+
+-- once it took in a signal of an input, or of the hub that it reads, the node inside is what its own call makes of it, and the queue stays
+abbrev pub queued_took : {M T : Type 0} → Machine M T → Queued M T → ℕ → Signal T → Queued M T → Type 0
+queued_took b old i s new = IsQueueKept old new × b.took old.node i s new.node
+
+abbrev pub queued_heard : {M T : Type 0} → Machine M T → Queued M T → Signal T → Queued M T → Type 0
+queued_heard b old s new = IsQueueKept old new × b.heard old.node s new.node
+
+-- what a pick makes of a node with its queue: a signal goes over the edge, where the node records it by that; or a pick of the node,
+-- where nothing is recorded so, and the queue stays
+pub record IsQueuedPick {M T : Type 0} (b : Machine M T) (old : Queued M T) (i : ℕ) (new : Queued M T) : Type 0 where
+  pub over : is_some (pop_note b old.node) ≡ true → IsMovedOver b old new
+  pub inside : pop_note b old.node ≡ None → IsQueueKept old new × b.picked old.node i new.node
 
 -- ---- the same, as callers see the edge
 

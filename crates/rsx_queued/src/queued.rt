@@ -122,7 +122,7 @@ impl<M: Machine<Item = T>, T: Drop> Machine for Queued<M, T> {
     ghost use Rattle.rsx_queued.specs.declared.queued.Queued.{Queued};
     ghost use Rattle.rsx_sources.specs.Machine.{IsComposed, TakesIn, Keeps, Records, front_of};
     ghost use Rattle.rsx_sources.specs.Steps.{IsNotTaken, IsNotMade, IsSameKind, StaysAlike};
-    ghost use Rattle.rsx_queued.specs.Transfer.{IsMovedOver, IsQueueKept, IsQueuedRow, IsTransferred};
+    ghost use Rattle.rsx_queued.specs.Transfer.{IsMovedOver, IsQueueKept, IsQueuedPick, IsQueuedRow, IsTransferred, queued_heard, queued_took};
     ghost use Rattle.rsx_queued.specs.Calls.{NodeTakesIn, NodeReadsOn, NodePicks, QueuedPassed, QueuedSteppedOut};
     ghost use Rattle.rsx_types.specs.Notes.{note_then};
     ghost use Rattle.rsx_sources.specs.Reading.{IsReadOn, takes_published};
@@ -142,6 +142,12 @@ impl<M: Machine<Item = T>, T: Drop> Machine for Queued<M, T> {
     ghost rows = { queued_rows M.Machine };
 
     ghost rowed = { IsQueuedRow M.Machine };
+
+    ghost took = { queued_took M.Machine };
+
+    ghost heard = { queued_heard M.Machine };
+
+    ghost picked = { IsQueuedPick M.Machine };
 
     ghost recording = { queued_recording M.Machine };
 
@@ -238,6 +244,7 @@ impl<M: Machine<Item = T>, T: Drop> Machine for Queued<M, T> {
     ) -> Result<(), NotTaken<T>>
         ensures ok { OnOk result (TakesIn (queued_comes_out M.Machine (O.meaning ops.now)) self.old input signal self.new) }
         ensures enabled { OnOk result (queued_takes M.Machine self.old input (front_of signal) ≡ true) }
+        ensures made { OnOk result (queued_took M.Machine self.old input signal self.new) }
         ensures recorded { M.recorded self.new.node ≡ M.recorded self.old.node }
         ensures counts { OnOk result (QueuedCountsIn M.Machine self.old input signal self.new) }
         ensures err { IfErr result (IsNotTaken (queued_takes M.Machine self.old input (front_of signal)) signal) }
@@ -289,6 +296,7 @@ impl<M: Machine<Item = T>, T: Drop> Machine for Queued<M, T> {
     fn on_published(&mut self, signal: Signal<T>) -> Result<(), Signal<T>>
         ensures ok { OnOk result (IsReadOn (queued_comes_out M.Machine) (queued_reads M.Machine) self.old signal self.new) }
         ensures enabled { OnOk result (queued_takes_published M.Machine self.old signal ≡ true) }
+        ensures made { OnOk result (queued_heard M.Machine self.old signal self.new) }
         ensures recorded { M.recorded self.new.node ≡ M.recorded self.old.node }
         ensures counts { OnOk result (QueuedCountsStep M.Machine self.old self.new) }
         ensures refused { OnErr result (queued_takes_published M.Machine self.old signal ≡ false) }
@@ -338,6 +346,7 @@ impl<M: Machine<Item = T>, T: Drop> Machine for Queued<M, T> {
     ) -> Result<(), NotMade>
         ensures ok { OnOk result (Records (queued_comes_out M.Machine (O.meaning ops.now)) self.old (queued_recording M.Machine self.old input) self.new) }
         ensures enabled { OnOk result (queued_picks M.Machine self.old input asked sent ≡ true) }
+        ensures made { OnOk result (IsQueuedPick M.Machine self.old input self.new) }
         ensures recorded { OnOk result (M.recorded self.new.node ≡ note_then (M.recorded self.old.node) (queued_recording M.Machine self.old input)) }
         ensures composes { OnOk result (IsComposed (M.recorded self.old.node) (queued_recording M.Machine self.old input)) }
         ensures counts { OnOk result (QueuedCountsStep M.Machine self.old self.new) }

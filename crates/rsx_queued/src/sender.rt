@@ -19,7 +19,7 @@ pub enum Sender<M, T> {
 impl<M: Machine<Item = T>, T: Drop> Machine for Sender<M, T> {
     type Item = T;
 
-    ghost use Rattle.rsx_queued.specs.Sender.{is_crossing, sender_comes_out, sender_waiting, sender_shown, sender_takes, sender_picks, sender_rows, sender_rowed, sender_recording, sender_recorded, sender_popping, sender_ended, sender_done, sender_counted, sender_wanted, sender_accepts, sender_popped, sender_pop_allocates, sender_signal_allocates, sender_step_allocates, sender_shows, sender_alike, sender_drops, sender_ends, sender_settles, sender_ending_waits, sender_hungry, SenderCountsIn, SenderCountsStep, SenderAlike, SenderSameKind, sender_reads, sender_rooms, sender_takes_published, sender_ends_reading, sender_done_drops, sender_enough};
+    ghost use Rattle.rsx_queued.specs.Sender.{is_crossing, sender_comes_out, sender_waiting, sender_shown, sender_takes, sender_picks, sender_rows, sender_rowed, sender_took, sender_heard, sender_picked, sender_recording, sender_recorded, sender_popping, sender_ended, sender_done, sender_counted, sender_wanted, sender_accepts, sender_popped, sender_pop_allocates, sender_signal_allocates, sender_step_allocates, sender_shows, sender_alike, sender_drops, sender_ends, sender_settles, sender_ending_waits, sender_hungry, SenderCountsIn, SenderCountsStep, SenderAlike, SenderSameKind, sender_reads, sender_rooms, sender_takes_published, sender_ends_reading, sender_done_drops, sender_enough};
     ghost use Rattle.rsx_queued.specs.declared.sender.Sender.{Sender};
     ghost use Rattle.rsx_sources.specs.Machine.{TakesIn, front_of};
     ghost use Rattle.rsx_sources.specs.Steps.{IsNotTaken, IsSameKind, StaysAlike};
@@ -40,6 +40,12 @@ impl<M: Machine<Item = T>, T: Drop> Machine for Sender<M, T> {
     ghost rows = { sender_rows M.Machine };
 
     ghost rowed = { sender_rowed M.Machine };
+
+    ghost took = { sender_took M.Machine };
+
+    ghost heard = { sender_heard M.Machine };
+
+    ghost picked = { sender_picked M.Machine };
 
     ghost recording = { sender_recording M.Machine };
 
@@ -132,6 +138,7 @@ impl<M: Machine<Item = T>, T: Drop> Machine for Sender<M, T> {
     ) -> Result<(), NotTaken<T>>
         ensures ok { OnOk result (TakesIn (sender_comes_out M.Machine (O.meaning ops.now)) self.old input signal self.new) }
         ensures enabled { OnOk result (sender_takes M.Machine self.old input (front_of signal) ≡ true) }
+        ensures made { OnOk result (sender_took M.Machine self.old input signal self.new) }
         ensures recorded { sender_recorded M.Machine self.new ≡ sender_recorded M.Machine self.old }
         ensures counts { OnOk result (SenderCountsIn M.Machine self.old input signal self.new) }
         ensures err { IfErr result (IsNotTaken (sender_takes M.Machine self.old input (front_of signal)) signal) }
@@ -180,6 +187,7 @@ impl<M: Machine<Item = T>, T: Drop> Machine for Sender<M, T> {
     fn on_published(&mut self, signal: Signal<T>) -> Result<(), Signal<T>>
         ensures ok { OnOk result (IsReadOn (sender_comes_out M.Machine) (sender_reads M.Machine) self.old signal self.new) }
         ensures enabled { OnOk result (sender_takes_published M.Machine self.old signal ≡ true) }
+        ensures made { OnOk result (sender_heard M.Machine self.old signal self.new) }
         ensures recorded { sender_recorded M.Machine self.new ≡ sender_recorded M.Machine self.old }
         ensures counts { OnOk result (SenderCountsStep M.Machine self.old self.new) }
         ensures refused { OnErr result (sender_takes_published M.Machine self.old signal ≡ false) }

@@ -1,4 +1,5 @@
 -- The node that reads a hub takes in several items of it at once, and lets several out.
+use Rattle.std.specs.Prelude.{⊤}
 use Rattle.std.proofs.Common.{None, ◌≡◌, ℕ, zero, suc, ◌+◌, ◌<◌, ◌≤◌, min, false, true, List, [], ◌∷◌, ◌++◌, length, length-append, reverse, take, drop, refl, ap, sym, ◌∙◌, subst, append_assoc, append-nil, arith}
 use Rattle.std.proofs.lemmas.List.{length-reverse, reverse-append, reverse-reverse}
 use Rattle.rsx_hub.proofs.Offers.{first_out, still_member}
@@ -23,6 +24,9 @@ leaf_machine = record {
   picks = λ n i a s. false;
   rows = λ n a s. false;
   rowed = λ n a s k. ⊥;
+  took = λ n i s new. ⊤;
+  heard = λ n s new. ⊤;
+  picked = λ n i new. ⊤;
   recording = λ n i. Nothing;
   recorded = λ n. Nothing;
   popping = λ n. None;
@@ -44,7 +48,7 @@ leaf_machine = record {
 leaf_step : {T : Type 0} (n : LeafState T) (x : T) → 0 < leaf_spaces n → IsItemTaken leaf_machine n x (leaf_took n (Next x))
 leaf_step n x some =
     let taken = item_taken n x some in
-    record { room = spaces_room n some; taken = record { on = taken.0; recorded = refl; counts = taken.1; calls = (refl, λ a. (refl, refl, refl)) } }
+    record { room = spaces_room n some; taken = record { on = taken.0; recorded = refl; counts = taken.1; calls = (refl, λ a. (refl, refl, refl)); heard = tt } }
 
 positive : (a k : ℕ) → suc a ≤ k → 0 < k
 positive a k l = omega (arith, l)

@@ -9,7 +9,7 @@ use Rattle.rsx_tree.specs.Prelude.{IsTreeReadAt, changed_at, asked_up_to, edge_v
 use Rattle.rsx_rooted.specs.Output.{counts_in, items_in, IsUnended, values_then}
 use Rattle.rsx_rooted.specs.Feeding.{IsSentOut}
 use Rattle.rsx_rooted.specs.Fetched.{IsMovedInside, IsWorked}
-use Rattle.rsx_rooted.specs.Rooted.{Stands, IsPutOut, IsMade, IsMadeInto, IsMoved, IsMovedBy, IsMovedOver, IsPumped, IsQuiet, IsSpent, HasEnded, IsAsk, IsSend, IsEffect, IsTreeSent, GoesOut, sent_at, send_enabled, move_enabled, make_allocates, evaluated, pump_allocates, no_room}
+use Rattle.rsx_rooted.specs.Rooted.{Stands, IsAlone, IsPutOut, IsMade, IsMadeInto, IsMoved, IsMovedBy, IsMovedOver, IsPumped, IsQuiet, IsSpent, HasEnded, IsAsk, IsSend, IsEffect, IsTreeSent, GoesOut, sent_at, send_enabled, move_enabled, make_allocates, evaluated, pump_allocates, no_room}
 use Rattle.rsx_rooted.specs.Tree.{comes_out, notes, offers, edges, edges_after, can_ask, can_send, can_go, want_at, want_in, front_at, front_in, ended_at, IsAllClosed, IsKept, IsLetGo, IsAlike, step_allocates, IsAdvanced, IsAskedAt, IsSentAt, IsChosen, IsDriven, IsIdle, IsBalanced, IsBalancedAfter, pop_allocates, IsStill}
 use Rattle.rsx_tree.specs.declared.look.NodeMove.{NodeMove}
 use Rattle.rsx_tree.specs.declared.look.NodeMove.TheVariants.{Ask, Send, Pick, Row}
@@ -308,6 +308,14 @@ made_inside b m move old new effect chosen balance alive root alike = record {
 
 pub made_into : {M S T : Type 0} (b : Machine M T) (k : Sink S T) (m : Meaning T) (move step : NodeMove) (old new : Rooted M) (sink : S) → move ≡ step → IsMade b m step old [] new → IsMadeInto b k m move old sink new sink
 made_into b k m move step old new sink is made = ([], subst (λ s. IsMade b m s old [] new) (sym is) made, sym (append-nil (k.signals sink)))
+
+-- what is said of a move is said of the one that it is
+pub alone_as : {M T : Type 0} (b : Machine M T) (m : Meaning T) (move step : NodeMove) (old new : Rooted M) → move ≡ step → IsAlone b m step old new → IsAlone b m move old new
+alone_as b m move step old new is h = subst (λ s. IsAlone b m s old new) (sym is) h
+
+-- a Send over the root edge is about no node that takes the signal in
+pub alone_root : {M T : Type 0} (b : Machine M T) (m : Meaning T) (n : ℕ) (old new : Rooted M) → n ≤ 0 → IsAlone b m (Send n) old new
+alone_root b m n old new none some = absurd (omega (arith, none, some))
 
 -- a move that a call made is a run of one move
 pub pumped_made : {M S T : Type 0} (b : Machine M T) (k : Sink S T) (m : Meaning T) (move : NodeMove) (old new : Rooted M) (sink sink' : S) → move_enabled b m old (k.room sink) move ≡ true → IsMadeInto b k m move old sink new sink' → IsPumped b k m 1 old sink new sink'

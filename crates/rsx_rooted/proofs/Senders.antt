@@ -10,7 +10,7 @@ use Rattle.rsx_queued.specs.declared.tail.Tail.TheVariants.{Open, Completion, Fa
 use Rattle.rsx_tree.specs.Allocates.{IsNodeAlike}
 use Rattle.rsx_tree.specs.Stepped.{IsStepOf}
 use Rattle.rsx_queued.proofs.Senders.{passed_direct}
-use Rattle.rsx_queued.specs.Sender.{is_crossing, sender_popping, sender_comes_out, sender_waiting, sender_shown, sender_takes, sender_picks, sender_rows, sender_rowed, sender_recording, sender_recorded, sender_ended, sender_done, sender_counted, sender_wanted, sender_accepts, sender_popped, sender_pop_allocates, sender_signal_allocates, sender_step_allocates, sender_reads, sender_rooms}
+use Rattle.rsx_queued.specs.Sender.{is_crossing, sender_popping, sender_comes_out, sender_waiting, sender_shown, sender_takes, sender_picks, sender_rows, sender_rowed, sender_took, sender_heard, sender_picked, sender_recording, sender_recorded, sender_ended, sender_done, sender_counted, sender_wanted, sender_accepts, sender_popped, sender_pop_allocates, sender_signal_allocates, sender_step_allocates, sender_reads, sender_rooms}
 use Rattle.rsx_queued.specs.declared.sender.Sender.{Sender}
 use Rattle.rsx_queued.specs.declared.sender.Sender.TheVariants.{Direct, Crossing}
 use Rattle.rsx_sources.specs.Prelude.{Meaning, Note}
@@ -33,6 +33,9 @@ sender_machine b = record {
   picks = sender_picks b;
   rows = sender_rows b;
   rowed = sender_rowed b;
+  took = sender_took b;
+  heard = sender_heard b;
+  picked = sender_picked b;
   recording = sender_recording b;
   recorded = sender_recorded b;
   ended = sender_ended b;
@@ -214,5 +217,6 @@ taken_direct b n x n' k =
         recorded = k.taken.recorded;
         counts = record { stays_ended = counts.stays_ended; counts = counts.counts; stays_done = counts.stays_done };
         calls = (refl, k.taken.calls.1);
+        heard = k.taken.heard;
       };
     }

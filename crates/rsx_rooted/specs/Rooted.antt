@@ -1,5 +1,5 @@
 -- A part: a tree with the edge from its root. What it stands for, which of its moves are enabled, and what they change.
-use Rattle.std.specs.Prelude.{◌≡◌, ℕ, ◌+◌, ◌-◌, ◌<◌, ◌≤◌, ◌^◌, Bool, true, false, ◌&&◌, nat_eq, if◌then◌else◌, List, [], ◌∷◌, ◌++◌, length, map, Option, Some, option_map, Result, Ok, Err}
+use Rattle.std.specs.Prelude.{◌≡◌, ⊤, ℕ, ◌+◌, ◌-◌, ◌<◌, ◌≤◌, ◌^◌, Bool, true, false, ◌&&◌, nat_eq, if◌then◌else◌, List, [], ◌∷◌, ◌++◌, length, map, Option, Some, option_map, Result, Ok, Err}
 use Rattle.rsx_model.specs.Eval.{environment_until_stop, eval}
 use Rattle.rsx_model.specs.declared.expr.Expr.{Expr}
 use Rattle.rsx_sources.specs.Prelude.{Meaning, Allocates, notes_then, unchosen, Stream, signals_then, Note, Signal, front_of}
@@ -10,7 +10,7 @@ use Rattle.rsx_tree.specs.Prelude.{edge_view, EdgeView, passed, changed_at, aske
 use Rattle.rsx_sources.specs.declared.machine.Machine.{Ghosts as Machine}
 use Rattle.rsx_tree.specs.Runs.{Gives}
 use Rattle.rsx_rooted.specs.Output.{counts_in, has_room, items_in, IsUnended, IsOrderly, values_then}
-use Rattle.rsx_rooted.specs.Tree.{comes_out, notes, offers, can_ask, can_send, can_go, IsAllClosed, IsLetGo, edges, edges_after, want_at, front_at, ended_at, with_edge, pop_allocates, send_allocates, step_allocates, tree_allocates, IsAlike, IsBalanced, IsChosen, can_pick, can_row, IsPickedAt, IsRowAt, IsSentAt}
+use Rattle.rsx_rooted.specs.Tree.{comes_out, notes, offers, can_ask, can_send, can_go, IsAllClosed, IsLetGo, edges, edges_after, want_at, front_at, ended_at, with_edge, pop_allocates, send_allocates, step_allocates, tree_allocates, IsAlike, IsBalanced, IsChosen, can_pick, can_row, IsAfterPickAt, IsPickedAt, IsReceivedAt, IsRowAt, IsSentAt}
 use Rattle.rsx_tree.specs.declared.edge.Edge.{Edge}
 use Rattle.rsx_tree.specs.declared.edge.EdgeState.TheVariants.{Live, Closed, Ended}
 use Rattle.rsx_rooted.specs.declared.rooted.Rooted.{Rooted}
@@ -166,6 +166,16 @@ IsEffect b m (Ask n) old out new = (out ≡ []) × IsAsk b old n new
 IsEffect b m (Send n) old out new = IsSend b m old n out new
 IsEffect b m (Pick n input) old out new = (out ≡ []) × IsPick b old n input new
 IsEffect b m (Row n) old out new = (out ≡ []) × IsRow b old n new
+
+-- What a call that makes just this move says besides of the node that the move is about: no step of it was made besides, not even one that
+-- leaves no trace in what comes out. Of the other moves their effect says so: an Ask changes no node, over the root edge a signal is only
+-- taken out, and a row says what it makes of its node. In a run of moves an item may go through a node in one go, so of each move there
+-- only the effect is told.
+abbrev pub IsAlone : {M T : Type 0} → Machine M T → Meaning T → NodeMove → Rooted M → Rooted M → Type 0
+IsAlone b m (Ask n) old new = ⊤
+IsAlone b m (Send n) old new = 0 < n → IsReceivedAt b m old.tree (n - 1) new.tree
+IsAlone b m (Pick n input) old new = IsAfterPickAt b input old.tree (edge_view old.root) n new.tree
+IsAlone b m (Row n) old new = ⊤
 
 -- ---- one move, and many
 

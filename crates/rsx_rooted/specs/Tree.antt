@@ -9,8 +9,8 @@ pub use Rattle.rsx_tree.specs.Chosen.{IsChosen, IsPickedAt, IsRowAt}
 pub use Rattle.rsx_tree.specs.Driven.{IsIdle}
 use Rattle.rsx_tree.specs.Driven as Runs
 use Rattle.rsx_tree.specs.Prelude.{EdgeView, can_pass, closed_if, Place, wanted_at, is_own, sent_edges, can_pick_in, can_row_in, station_of, place_of}
-pub use Rattle.rsx_tree.specs.Stepped.{IsStill, step_allocates}
-pub use Rattle.rsx_tree.specs.Tree.{comes_out, notes, offers, edges, can_ask, can_send, send_allocates, ended_at, with_edge, IsAllClosed, IsKept, IsLetGo, IsAskedAt, IsSentAt}
+pub use Rattle.rsx_tree.specs.Stepped.{IsAfterPickAt, IsStill, step_allocates}
+pub use Rattle.rsx_tree.specs.Tree.{comes_out, notes, offers, edges, can_ask, can_send, send_allocates, ended_at, with_edge, IsAllClosed, IsKept, IsLetGo, IsAskedAt, IsReceivedAt, IsSentAt}
 use Rattle.rsx_tree.specs.declared.node.Node.{Node}
 
 -- a signal that is offered can go over this edge

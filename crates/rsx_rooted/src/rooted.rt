@@ -42,9 +42,9 @@ impl<M: Machine> Rooted<M> {
     ghost use Rattle.rsx_tree.specs.Stepped.{station_of};
     ghost use Rattle.rsx_tree.specs.Driven.{Spent};
     ghost use Rattle.rsx_tree.specs.Refusals.{IsNotEnabled, OnlyNotEnabled};
-    ghost use Rattle.rsx_rooted.specs.Tree.{can_send, pop_allocates, send_allocates, step_allocates, IsAlike, IsStill};
+    ghost use Rattle.rsx_rooted.specs.Tree.{can_send, pop_allocates, send_allocates, step_allocates, IsAfterPickAt, IsAlike, IsReceivedAt, IsStill};
     ghost use Rattle.rsx_rooted.specs.Fetched.{IsFetched, IsWorked};
-    ghost use Rattle.rsx_rooted.specs.Rooted.{pump_allocates, IsMade, IsMadeInto, IsPumped, IsQuiet, IsAwake, IsSpent, HasEnded, make_allocates, move_enabled, ask_enabled, send_enabled, pick_enabled, row_enabled, IsNumbered};
+    ghost use Rattle.rsx_rooted.specs.Rooted.{pump_allocates, IsAlone, IsMade, IsMadeInto, IsPumped, IsQuiet, IsAwake, IsSpent, HasEnded, make_allocates, move_enabled, ask_enabled, send_enabled, pick_enabled, row_enabled, IsNumbered};
 
     /// Whether a move is enabled, where the root's signals go into `out`. The root's Ask never is: what is asked of
     /// the root rises by requests.
@@ -124,6 +124,7 @@ impl<M: Machine> Rooted<M> {
         out: &mut S,
     ) -> Result<(), NotMade>
         ensures made { OnOk result (IsMadeInto M.Machine S.Sink (O.meaning ops.now) step self.old out.old self.new out.new) }
+        ensures alone { OnOk result (IsAlone M.Machine (O.meaning ops.now) step self.old self.new) }
         ensures enabled { OnOk result (move_enabled M.Machine (O.meaning ops.now) self.old (S.Sink.room out.old) step ≡ true) }
         ensures err { IfErr result (IsNotMade (move_enabled M.Machine (O.meaning ops.now) self.old (S.Sink.room out.old) step)) }
         ensures memory { make_allocates M.Machine (O.allocates ops.now) self.old step ≡ false → OnlyNotEnabled result }
@@ -185,6 +186,7 @@ impl<M: Machine> Rooted<M> {
     ) -> Result<(), NotMade>
         requires { 0 < at }
         ensures made { OnOk result (IsMade M.Machine (O.meaning ops.now) (NodeMove.Send at) self.old [] self.new) }
+        ensures received { OnOk result (IsReceivedAt M.Machine (O.meaning ops.now) self.old.tree (at - 1) self.new.tree) }
         ensures enabled { OnOk result (can_send M.Machine (O.meaning ops.now) self.old.tree (at - 1) ≡ true) }
         ensures err { IfErr result (IsNotMade (can_send M.Machine (O.meaning ops.now) self.old.tree (at - 1))) }
         ensures memory { send_allocates M.Machine (O.allocates ops.now) self.old.tree (at - 1) ≡ false → OnlyNotEnabled result }
@@ -205,6 +207,7 @@ impl<M: Machine> Rooted<M> {
         input: u64,
     ) -> Result<(), NotMade>
         ensures made { OnOk result (IsMade M.Machine (O.meaning ops.now) (NodeMove.Pick at input) self.old [] self.new) }
+        ensures after { OnOk result (IsAfterPickAt M.Machine input self.old.tree (edge_view self.old.root) at self.new.tree) }
         ensures enabled { OnOk result (pick_enabled M.Machine self.old at input ≡ true) }
         ensures err { IfErr result (IsNotMade (pick_enabled M.Machine self.old at input)) }
         ensures memory { step_allocates M.Machine (O.allocates ops.now) self.old.tree (edge_view self.old.root) at ≡ false → OnlyNotEnabled result }

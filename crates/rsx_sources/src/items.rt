@@ -77,6 +77,12 @@ impl<T: Drop> Machine for ItemsNode<T> {
 
     ghost rowed = { λ n a s k. ⊥ };
 
+    ghost took = { λ n i s new. ⊤ };
+
+    ghost heard = { λ n s new. ⊤ };
+
+    ghost picked = { λ n i new. ⊤ };
+
     ghost recording = { λ n i. Nothing };
 
     ghost recorded = { λ n. Nothing };

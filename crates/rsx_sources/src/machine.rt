@@ -83,6 +83,15 @@ pub trait Machine {
     /// What a row makes of the node, where so much is asked of it and was sent by it.
     ghost rowed: { Self → ℕ → ℕ → Self → Type 0 };
 
+    /// What the node is once it took in a signal of an input.
+    ghost took: { Self → ℕ → Signal Self.Item → Self → Type 0 };
+
+    /// What it is once it took in a signal of the hub that it reads.
+    ghost heard: { Self → Signal Self.Item → Self → Type 0 };
+
+    /// What it is once it picked an input.
+    ghost picked: { Self → ℕ → Self → Type 0 };
+
     /// What picking an input adds to what the node recorded.
     ghost recording: { Self → ℕ → Note };
 
@@ -187,6 +196,7 @@ pub trait Machine {
     ) -> Result<(), NotTaken<Self::Item>>
         ensures ok { OnOk result (TakesIn (comes_out (O.meaning ops.now)) self.old input signal self.new) }
         ensures enabled { OnOk result (takes self.old input (front_of signal) ≡ true) }
+        ensures made { OnOk result (took self.old input signal self.new) }
         ensures recorded { recorded self.new ≡ recorded self.old }
         ensures counts { OnOk result (CountsIn counted ended done self.old input signal self.new) }
         ensures err { IfErr result (IsNotTaken (takes self.old input (front_of signal)) signal) }
@@ -231,6 +241,7 @@ pub trait Machine {
     fn on_published(&mut self, signal: Signal<Self::Item>) -> Result<(), Signal<Self::Item>>
         ensures ok { OnOk result (IsReadOn comes_out reads self.old signal self.new) }
         ensures enabled { OnOk result (takes_published (reads self.old) (rooms self.old) signal ≡ true) }
+        ensures made { OnOk result (heard self.old signal self.new) }
         ensures recorded { recorded self.new ≡ recorded self.old }
         ensures counts { OnOk result (CountsStep counted ended done self.old self.new) }
         ensures refused { OnErr result (takes_published (reads self.old) (rooms self.old) signal ≡ false) }
@@ -258,6 +269,7 @@ pub trait Machine {
     ) -> Result<(), NotMade>
         ensures ok { OnOk result (Records (comes_out (O.meaning ops.now)) self.old (recording self.old input) self.new) }
         ensures enabled { OnOk result (picks self.old input asked sent ≡ true) }
+        ensures made { OnOk result (picked self.old input self.new) }
         ensures recorded { OnOk result (recorded self.new ≡ note_then (recorded self.old) (recording self.old input)) }
         ensures composes { OnOk result (IsComposed (recorded self.old) (recording self.old input)) }
         ensures counts { OnOk result (CountsStep counted ended done self.old self.new) }

@@ -39,7 +39,7 @@ use Rattle.rsx_subscriber.specs.declared.state.SubscriptionState.{SubscriptionSt
 use Rattle.rsx_subscriber.specs.declared.state.SubscriptionState.TheVariants.{Open, Ended, Cancelled, Refused}
 use Rattle.rsx_subscriber.specs.Past.{Past, items_in, IsUnended, IsOrderly, IsPrefixOf, IsLive, cancelled, cancelled_state, state_after, refused, requested, requested_in, given, asked_more}
 use Rattle.rsx_subscriber.specs.Pumped.{IsPumped, IsMoved, IsQuiet, IsAwake, IsRest, HasRested, given_all, to}
-use Rattle.rsx_subscriber.specs.Stands.{Stands, take_enabled, IsInside, IsKeptBeside, IsMadeAnswer, IsTakeAnswer, IsWorked, IsWorkedBy, IsEffect, IsTake, inner_move, move_enabled_in, standing_of, enabled_inside}
+use Rattle.rsx_subscriber.specs.Stands.{Stands, take_enabled, IsAlone, IsAloneBy, IsInside, IsKeptBeside, IsMadeAnswer, IsTakeAnswer, IsWorked, IsWorkedBy, IsEffect, IsTake, inner_move, move_enabled_in, standing_of, enabled_inside}
 use Rattle.rsx_subscriber.specs.Moves.{delivery, inside_node, name_of, node_move, tree_of}
 
 pub IsLive-open : (s : SubscriptionState) → s ≡ Open → IsLive s
@@ -531,6 +531,10 @@ pumped_part {M} {T} mc kd m id n sub w part' queue' o k = record {
 -- one move of the part
 pub worked_part : {M T : Type 0} (mc : Machine M T) (kd : Nodes M T) (m : Meaning T) (move : Move) (step : NodeMove) (old new : Subscription M T) → Some step ≡ inner_move kd old move → IsKeptBeside old new → Part.IsMadeInto mc queue_sink m step old.part old.queue new.part new.queue → IsWorked mc kd m move old new
 worked_part mc kd m move step old new is r h = subst (λ o. IsWorkedBy mc m o old new) is (worked_by mc m step old new h.0 r h.2 h.1.effect)
+
+-- and the call that made it says of the part what it says of the move that was named
+pub alone_part : {M T : Type 0} (mc : Machine M T) (kd : Nodes M T) (m : Meaning T) (move : Move) (step : NodeMove) (old new : Subscription M T) → Some step ≡ inner_move kd old move → Part.IsAlone mc m step old.part new.part → IsAlone mc kd m move old new
+alone_part mc kd m move step old new is h = subst (λ o. IsAloneBy mc m o old new) is h
 
 pub stands_made : {M T : Type 0} (mc : Machine M T) (m : Meaning T) (step : NodeMove) (published : List (Stream T)) (old new : Subscription M T) (past : Past T) → IsKeptBeside old new → Part.move_enabled mc m old.part (has_room old.queue) step ≡ true → Part.IsMadeInto mc queue_sink m step old.part old.queue new.part new.queue → Stands mc m published old past → Stands mc m published new past
 stands_made mc m step published old new past r can k h =

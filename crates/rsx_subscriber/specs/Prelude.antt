@@ -33,7 +33,7 @@ pub use Rattle.rsx_subscriber.specs.Past.{IsLive, IsPrefixOf, Past, cancelled, g
 pub use Rattle.rsx_subscriber.specs.Published.{IsHanded}
 pub use Rattle.rsx_subscriber.specs.Pumped.{HasRested, IsAwake, IsMoved, IsPumped, IsQuiet, given_all, to}
 pub use Rattle.rsx_subscriber.specs.Standing.{delivers, input_of, is_delivery, standing}
-pub use Rattle.rsx_subscriber.specs.Stands.{IsEffect, IsKeptBeside, IsMadeAnswer, IsStillOwed, IsTake, IsTakeAnswer, Stands, enabled_inside, inner_move, make_allocates, move_enabled_in, owes_in, standing_of, take_enabled}
+pub use Rattle.rsx_subscriber.specs.Stands.{IsAlone, IsEffect, IsKeptBeside, IsMadeAnswer, IsStillOwed, IsTake, IsTakeAnswer, Stands, enabled_inside, inner_move, make_allocates, move_enabled_in, owes_in, standing_of, take_enabled}
 pub use Rattle.rsx_tree.specs.Handed.{IsHandedOut, is_room_for, times}
 pub use Rattle.rsx_tree.specs.declared.edge.EdgeState.{EdgeState}
 pub use Rattle.rsx_tree.specs.declared.edge.EdgeState.TheVariants.{Closed, Live}

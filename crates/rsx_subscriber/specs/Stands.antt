@@ -1,7 +1,7 @@
 -- What a subscription stands for, its enabled moves, and what a move changes.
 use Rattle.rsx_sources.specs.declared.machine.Machine.{Ghosts as Machine}
 use Rattle.rsx_rooted.specs.declared.nodes.Nodes.{Ghosts as Nodes}
-use Rattle.std.specs.Prelude.{◌≡◌, ℕ, ◌<◌, Bool, true, false, ◌&&◌, ◌||◌, nat_eq, List, [], ◌∷◌, ◌++◌, length, map, Option, Some, None, option_map}
+use Rattle.std.specs.Prelude.{◌≡◌, ⊤, ℕ, ◌<◌, Bool, true, false, ◌&&◌, ◌||◌, nat_eq, List, [], ◌∷◌, ◌++◌, length, map, Option, Some, None, option_map}
 use Rattle.rsx_sources.specs.Prelude.{Meaning, Allocates, unchosen, Stream, signals_then, ended_by, Note, SubId, Sub, Feed, Move, Ask, Send, Take, Pick, Row, Accept, Open as NotEnded, Signal}
 use Rattle.rsx_tree.specs.Residual.{IsTreeBehind}
 pub use Rattle.rsx_pipe.specs.Output.{values_then}
@@ -183,6 +183,15 @@ IsWorkedBy mc m (Some (NodeRow n)) old new = IsRowMade mc old n new
 -- the effect of a move inside a tree
 abbrev pub IsWorked : {M T : Type 0} → Machine M T → Nodes M T → Meaning T → Move → Subscription M T → Subscription M T → Type 0
 IsWorked mc kd m mv old new = IsWorkedBy mc m (inner_move kd old mv) old new
+
+-- what a call that makes just this move of the part says besides, where there is one: no step of a node was made besides
+abbrev pub IsAloneBy : {M T : Type 0} → Machine M T → Meaning T → Option NodeMove → Subscription M T → Subscription M T → Type 0
+IsAloneBy mc m None old new = ⊤
+IsAloneBy mc m (Some step) old new = Part.IsAlone mc m step old.part new.part
+
+-- the same of the move inside the tree that a move names
+abbrev pub IsAlone : {M T : Type 0} → Machine M T → Nodes M T → Meaning T → Move → Subscription M T → Subscription M T → Type 0
+IsAlone mc kd m mv old new = IsAloneBy mc m (inner_move kd old mv) old new
 
 -- a Take: the front signal left the queue, no edge changed, and the subscription stands as the table says; an item is
 -- counted as delivered

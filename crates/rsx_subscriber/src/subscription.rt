@@ -159,7 +159,7 @@ impl<N: Nodes<Item = T>, T: Drop> Subscription<N, T> {
     ghost use Rattle.rsx_pipe.specs.Tree.{notes_of, IsAllClosed};
     ghost use Rattle.rsx_subscriber.specs.Past.{subscribed, cancelled, requested, given, request_answer};
     ghost use Rattle.rsx_subscriber.specs.Moves.{tree_of};
-    ghost use Rattle.rsx_subscriber.specs.Stands.{Stands, StandsAfter, standing_of, take_enabled, enabled_inside, inner_move, make_allocates, move_enabled_in, IsWorked, IsTake, IsStillOwed};
+    ghost use Rattle.rsx_subscriber.specs.Stands.{Stands, StandsAfter, standing_of, take_enabled, enabled_inside, inner_move, make_allocates, move_enabled_in, IsAlone, IsWorked, IsTake, IsStillOwed};
     ghost use Rattle.rsx_subscriber.specs.Delivered.{IsFull};
     ghost use Rattle.rsx_subscriber.specs.Edited.{IsRequested, IsCancelled};
     ghost use Rattle.rsx_subscriber.specs.Pumped.{IsPumped, SomePumped, HasPumped, HasPumpedPart, NothingTaken, IsRest, IsQuiet, IsAwake, Spent, moves_of};
@@ -270,6 +270,7 @@ impl<N: Nodes<Item = T>, T: Drop> Subscription<N, T> {
         ensures stands { OnOk result (StandsAfter N.Machine (O.meaning ops.now) (λ past. past) self.old self.new) }
         ensures enabled { OnOk result (enabled_inside N.Machine (O.meaning ops.now) self.old (inner_move N.Nodes.own self.old step) ≡ true) }
         ensures effect { OnOk result (IsWorked N.Machine N.Nodes.own (O.meaning ops.now) step self.old self.new) }
+        ensures alone { OnOk result (IsAlone N.Machine N.Nodes.own (O.meaning ops.now) step self.old self.new) }
         ensures err { IfErr result (IsNotMade (enabled_inside N.Machine (O.meaning ops.now) self.old (inner_move N.Nodes.own self.old step))) }
         ensures memory { make_allocates N.Machine N.Nodes.own (O.allocates ops.now) self.old step ≡ false → OnlyNotEnabled result }
         ensures same { OnErr result (self.new ≡ self.old) }

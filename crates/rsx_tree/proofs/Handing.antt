@@ -50,22 +50,22 @@ can_take h (Some w) room (Next x) r k = sym (ap (λ c. if c then room else true)
 can_take h (Some w) room Complete r k = refl
 can_take h (Some w) room (Error c) r k = refl
 
-taken_by : {M T A E : Type 0} (b : Machine M T) (s : Signal T) (n n' : M) (r : Result A E) → OnOk r (IsReadOn b.comes_out b.reads n s n') → b.recorded n' ≡ b.recorded n → OnOk r (CountsStep b.counted b.ended b.done n n') → OnErr r (takes_published (b.reads n) (b.rooms n) s ≡ false) → IsSameKind b.crosses b.pop_allocates b.signal_allocates b.step_allocates n n' →
+taken_by : {M T A E : Type 0} (b : Machine M T) (s : Signal T) (n n' : M) (r : Result A E) → OnOk r (IsReadOn b.comes_out b.reads n s n') → OnOk r (b.heard n s n') → b.recorded n' ≡ b.recorded n → OnOk r (CountsStep b.counted b.ended b.done n n') → OnErr r (takes_published (b.reads n) (b.rooms n) s ≡ false) → IsSameKind b.crosses b.pop_allocates b.signal_allocates b.step_allocates n n' →
     takes_published (b.reads n) (b.rooms n) s ≡ true → IsTakenBy b s n n'
-taken_by b s n n' (Ok a) on recorded counts refused calls can = record { on = on; recorded = recorded; counts = counts; calls = calls }
-taken_by b s n n' (Err e) on recorded counts refused calls can = absurd (both_ways _ refused can)
+taken_by b s n n' (Ok a) on heard recorded counts refused calls can = record { on = on; recorded = recorded; counts = counts; calls = calls; heard = heard }
+taken_by b s n n' (Err e) on heard recorded counts refused calls can = absurd (both_ways _ refused can)
 
 -- a node that reads the hub took the last of the signals in
 pub handed_to : {M T A E : Type 0} (b : Machine M T) (h k : ℕ) (s x : Signal T) (n n' : M) (r : Result A E) (old new : List (Signal T)) → reads_hub h (b.reads n) ≡ true → old ≡ new ++ x ∷ [] →
-    OnOk r (IsReadOn b.comes_out b.reads n x n') → b.recorded n' ≡ b.recorded n → OnOk r (CountsStep b.counted b.ended b.done n n') → OnErr r (takes_published (b.reads n) (b.rooms n) x ≡ false) → IsSameKind b.crosses b.pop_allocates b.signal_allocates b.step_allocates n n' →
+    OnOk r (IsReadOn b.comes_out b.reads n x n') → OnOk r (b.heard n x n') → b.recorded n' ≡ b.recorded n → OnOk r (CountsStep b.counted b.ended b.done n n') → OnErr r (takes_published (b.reads n) (b.rooms n) x ≡ false) → IsSameKind b.crosses b.pop_allocates b.signal_allocates b.step_allocates n n' →
     old ≡ times (k + reader_at b h n) s → is_room_for s (room_at b h n) ≡ true → IsNodeHanded b h s n n' × (new ≡ times k s)
-handed_to {M} {T} b h k s x n n' r old new reads popped on recorded counts refused calls all room =
+handed_to {M} {T} b h k s x n n' r old new reads popped on heard recorded counts refused calls all room =
     let one : k + reader_at b h n ≡ suc k = ap (λ c. k + (if c then 1 else 0)) reads ∙ more k in
     let last = last_of k new x s (sym (all ∙ ap (λ j. times j s) one) ∙ popped) in
     let can : takes_published (b.reads n) (b.rooms n) x ≡ true = ap (takes_published (b.reads n) (b.rooms n)) last.0 ∙ can_take h (b.reads n) (b.rooms n) s reads room in
     let T' : Signal T → Type 0 = λ y. IsTakenBy b y n n' in
     let W : Bool → Type 0 = λ c. IsTakenWhere b s c n n' in
-    (subst W (sym reads) (subst T' last.0 (taken_by b x n n' r on recorded counts refused calls can)), last.1)
+    (subst W (sym reads) (subst T' last.0 (taken_by b x n n' r on heard recorded counts refused calls can)), last.1)
   where
     more : (j : ℕ) → j + 1 ≡ suc j
     more j = omega arith

@@ -13,8 +13,8 @@ use Rattle.rsx_tree.proofs.Changes.{Rest}
 use Rattle.rsx_tree.specs.declared.node.Node.{Node}
 use Rattle.rsx_tree.specs.Edges.{EdgeView, closed_if, closed_view, closed_state}
 use Rattle.rsx_tree.specs.Inputs.{Place, place, comes_in, through, out_of, notes_of, edges as edges_in, is_own, closed_row, closed_row_if, can_ask_in, can_ask_over, can_send_in, can_send_over, sent_edges}
-use Rattle.rsx_tree.specs.Changed.{IsChanged, IsAskedOver, IsSentOver}
-use Rattle.rsx_tree.specs.Tree.{IsKept, IsSentAt, IsAskedAt, IsJoined, NoneLive, ended_in}
+use Rattle.rsx_tree.specs.Changed.{IsChanged, IsAskedOver, IsReceivedOver, IsSentOver}
+use Rattle.rsx_tree.specs.Tree.{IsKept, IsReceivedAt, IsSentAt, IsAskedAt, IsJoined, NoneLive, ended_in}
 use Rattle.rsx_tree.proofs.Rows.{IsGoneOver, then_same, passed_on, notes_sent, recorded_sent, notes_closed, notes_closed_if, comes_in_closed, comes_in_closed_if}
 use Rattle.rsx_tree.proofs.Effects.{Found, found, row_asked, row_sent, edges_closed_if, ended_closed_if, own_ended, same_close}
 
@@ -90,6 +90,9 @@ sent_effect {M} b m r r' at t mid t' h is =
       step = h;
       shut = refl;
     })
+
+pub received_effect : {M T : Type 0} (b : Machine M T) (m : Meaning T) (r r' : M) (at : ℕ) (t mid t' : Inputs M) → IsChanged (IsReceivedOver b m) b.ended r 0 0 0 t at r' mid → t' ≡ closed_row_if (b.ended r' && is_own t at) mid → IsReceivedAt b m (node r t) at (node r' t')
+received_effect b m r r' at t mid t' h is = record { mid = mid; step = h; shut = is }
 
 pub joined : {M : Type 0} (t : Node M) (beside : Inputs M) (e : Edge) (below others : Rest M) → e.demand.asked ≡ 0 → e.demand.sent ≡ 0 → e.state ≡ Live → below.value ≡ t.inputs → others.value ≡ beside → IsJoined t beside (More e t.machine below others)
 joined t beside e below others a s l b o = record {

@@ -58,6 +58,17 @@ pub record IsSentOver {M T : Type 0} (b : Machine M T) (m : Meaning T) (r : M) (
   pub alike_in : IsNodeAlike b r r'
   pub alike_out : IsNodeAlike b n n'
 
+-- what a Send makes of the receiver: the signal that the sender offered was taken in, and no more was done than the receiver says of that.
+-- Runs of moves, in which an item goes through a node in one go, don't say so much.
+pub record IsReceivedBy {M T : Type 0} (b : Machine M T) (m : Meaning T) (r : M) (i : ℕ) (n r' : M) : Type 0 where
+  pub signal : Signal T
+  pub offered : b.waiting m n ≡ Some signal
+  pub took : b.took r i signal r'
+
+-- the same of a Send over an edge, whatever is asked of the receiver and was sent by it
+abbrev pub IsReceivedOver : {M T : Type 0} → Machine M T → Meaning T → M → ℕ → ℕ → ℕ → Edge → M → M → Edge → M → Type 0
+IsReceivedOver b m r i asked sent e n r' e' n' = IsReceivedBy b m r i n r'
+
 -- an Ask of the receiver over the edge of this sender, which changes neither of them
 abbrev pub IsAskedBy : {M T : Type 0} → Machine M T → M → ℕ → ℕ → ℕ → M → Edge → Edge → Type 0
 IsAskedBy b r i asked sent n e e' = IsAskedOver b r i asked sent e n r e' n
@@ -107,6 +118,10 @@ IsAskedIn b r i asked sent t at r' t' = IsChanged (IsAskedOver b) (λ n. false) 
 -- a Send over it, whatever is asked of the row's receiver and was sent by it
 abbrev pub IsSentIn : {M T : Type 0} → Machine M T → Meaning T → M → ℕ → Inputs M → ℕ → M → Inputs M → Type 0
 IsSentIn b m r i t at r' t' = (asked sent : ℕ) → IsChanged (IsSentOver b m) b.ended r i asked sent t at r' t'
+
+-- what a Send over it makes of its receiver
+abbrev pub IsReceivedIn : {M T : Type 0} → Machine M T → Meaning T → M → ℕ → Inputs M → ℕ → M → Inputs M → Type 0
+IsReceivedIn b m r i t at r' t' = (asked sent : ℕ) → IsChanged (IsReceivedOver b m) b.ended r i asked sent t at r' t'
 
 -- a Send over it is refused exactly where it isn't enabled, but for want of memory
 abbrev pub IsNotSentIn : {M T : Type 0} → Machine M T → Meaning T → M → ℕ → Inputs M → ℕ → NotMade → Type 0

@@ -70,6 +70,8 @@ pub record IsTakenBy {M T : Type 0} (b : Machine M T) (s : Signal T) (n n' : M) 
   pub recorded : b.recorded n' ≡ b.recorded n
   pub counts : CountsStep b.counted b.ended b.done n n'
   pub calls : IsSameKind b.crosses b.pop_allocates b.signal_allocates b.step_allocates n n'
+  -- and it did no more than it says of that
+  pub heard : b.heard n s n'
 
 abbrev pub IsTakenWhere : {M T : Type 0} → Machine M T → Signal T → Bool → M → M → Type 0
 IsTakenWhere b s true n n' = IsTakenBy b s n n'

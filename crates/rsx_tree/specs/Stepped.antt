@@ -71,6 +71,10 @@ pub record IsRowMadeHere {M T : Type 0} (b : Machine M T) (m : Meaning T) (n : M
 abbrev pub IsRecordedHere : {M T : Type 0} → Machine M T → ℕ → Step M
 IsRecordedHere b i n asked sent n' = b.recorded n' ≡ note_then (b.recorded n) (b.recording n i)
 
+-- a pick, by what the node is after it
+abbrev pub IsAfterPick : {M T : Type 0} → Machine M T → ℕ → Step M
+IsAfterPick b i n asked sent n' = b.picked n i n'
+
 -- a step after which a node that had ended has, and an input that was done is
 pub record StaysOver {M T : Type 0} (b : Machine M T) (n : M) (asked sent : ℕ) (n' : M) : Type 0 where
   pub ended : b.ended n ≡ true → b.ended n' ≡ true
@@ -147,6 +151,10 @@ pub record IsSteppedBelow {M : Type 0} (P : Step M) (ends : M → Bool) (old : N
 abbrev pub IsSteppedAt : {M : Type 0} → Step M → (M → Bool) → Node M → EdgeView → ℕ → Node M → Type 0
 IsSteppedAt P ends old e zero new = IsRootStepped P ends old e new
 IsSteppedAt P ends old e (suc at) new = IsSteppedBelow P ends old at new
+
+-- what a pick makes of the node `at`, where that is a call of its own: no more than the node says of it
+abbrev pub IsAfterPickAt : {M T : Type 0} → Machine M T → ℕ → Node M → EdgeView → ℕ → Node M → Type 0
+IsAfterPickAt b i old e at new = IsSteppedAt (IsAfterPick b i) b.ended old e at new
 
 -- a pick of this input by the node `at`, and a row of it
 abbrev pub IsPickMadeAt : {M T : Type 0} → Machine M T → Meaning T → ℕ → Node M → EdgeView → ℕ → Node M → Type 0

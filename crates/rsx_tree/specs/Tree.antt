@@ -9,7 +9,7 @@ use Rattle.rsx_tree.specs.declared.inputs.Inputs.{Inputs, End, More'}
 use Rattle.rsx_tree.specs.declared.node.Node.{Node}
 use Rattle.rsx_tree.specs.Allocates.{IsAlike, IsNodeAlike}
 use Rattle.rsx_tree.specs.Balance.{IsBalanced, IsBalancedAfter}
-use Rattle.rsx_tree.specs.Changed.{Hold, IsChanged, IsReadyBy, IsSentOver, noting_of}
+use Rattle.rsx_tree.specs.Changed.{Hold, IsChanged, IsReadyBy, IsReceivedOver, IsSentOver, noting_of}
 use Rattle.rsx_tree.specs.Edges.{EdgeView, asked_up_to, changed_at, closed_if}
 use Rattle.rsx_tree.specs.Inputs.{Place, place, size, is_own, closed_row_if, comes_in, out_of, notes_of, edges as edges_in, can_ask_in, can_send_in, wanted_at, send_allocates_in, sent_edges, with_edge_at, IsUnchosen as IsUnchosenIn}
 
@@ -132,6 +132,12 @@ pub record IsSentAt {M T : Type 0} (b : Machine M T) (m : Meaning T) (old : Node
   pub edges : edges new ≡ closed_if (ended_at b new at && is_own old.inputs at) (sent_edges (ended_at b new at) front old.inputs at)
   pub mid : Inputs M
   pub step : IsChanged (IsSentOver b m) b.ended old.machine 0 0 0 old.inputs at new.machine mid
+  pub shut : new.inputs ≡ closed_row_if (b.ended new.machine && is_own old.inputs at) mid
+
+-- what a Send makes of its receiver, where that is a call of its own: no more than the receiver says of the signal that it took in
+pub record IsReceivedAt {M T : Type 0} (b : Machine M T) (m : Meaning T) (old : Node M) (at : ℕ) (new : Node M) : Type 0 where
+  pub mid : Inputs M
+  pub step : IsChanged (IsReceivedOver b m) b.ended old.machine 0 0 0 old.inputs at new.machine mid
   pub shut : new.inputs ≡ closed_row_if (b.ended new.machine && is_own old.inputs at) mid
 
 -- a tree became an input, over an edge over which nothing went yet

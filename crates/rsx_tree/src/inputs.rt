@@ -5,7 +5,7 @@ ghost use Rattle.rsx_tree.specs.Allocates.{either_allocates};
 ghost use Rattle.rsx_sources.specs.Steps.{IsNotMade};
 ghost use Rattle.rsx_tree.specs.Edges.{edge_view};
 ghost use Rattle.rsx_tree.specs.Inputs.{can_ask_over, can_send_over, send_over_allocates, size};
-ghost use Rattle.rsx_tree.specs.Changed.{IsAskedBy, IsCarried};
+ghost use Rattle.rsx_tree.specs.Changed.{IsAskedBy, IsCarried, IsReceivedBy};
 ghost use Rattle.rsx_tree.specs.Driven.{IsMadeOver, IsRestOver};
 ghost use Rattle.rsx_tree.specs.Refusals.{IsNotEnabled, OnlyNotEnabled};
 
@@ -67,11 +67,11 @@ impl<M: Machine> Inputs<M> {
     ghost use Rattle.std.specs.Prelude.{◌≡◌, ◌+◌, ◌<◌, ◌^◌, ◌&&◌, ◌++◌, ℕ, min, true, false, OnOk, OnErr, IfOk, IfErr};
     ghost use Rattle.rsx_sources.specs.Steps.{IsNotMade};
     ghost use Rattle.rsx_tree.specs.Inputs.{size, is_own, place, can_ask_in, send_allocates_in, closed_row_if, notes_of};
-    ghost use Rattle.rsx_tree.specs.Changed.{IsAskedIn, IsSentIn, IsNotSentIn};
+    ghost use Rattle.rsx_tree.specs.Changed.{IsAskedIn, IsReceivedIn, IsSentIn, IsNotSentIn};
     ghost use Rattle.rsx_tree.specs.Driven.{IsPass, IsRowIdle};
     ghost use Rattle.rsx_tree.specs.Refusals.{IsNotEnabled, OnlyNotEnabled};
     ghost use Rattle.rsx_tree.specs.Residual.{IsResidual};
-    ghost use Rattle.rsx_tree.specs.Stepped.{IsStepped, IsPickedHere, IsRowMadeHere, can_pick_in, can_row_in, station, step_allocates_in};
+    ghost use Rattle.rsx_tree.specs.Stepped.{IsAfterPick, IsStepped, IsPickedHere, IsRowMadeHere, can_pick_in, can_row_in, station, step_allocates_in};
     ghost use Rattle.rsx_tree.specs.Allocates.{over_allocates};
 
     /// How many nodes there are, but at most `most`.
@@ -153,6 +153,7 @@ impl<M: Machine> Inputs<M> {
     ) -> Result<bool, NotMade>
         requires { input + at < 2 ^ 64 }
         ensures made { OnOk result (IsSentIn M.Machine (O.meaning ops.now) receiver.old input self.old at receiver.new self.new) }
+        ensures received { OnOk result (IsReceivedIn M.Machine (O.meaning ops.now) receiver.old input self.old at receiver.new self.new) }
         ensures own { IfOk result (λ o. o ≡ is_own self.old at) }
         ensures err { IfErr result (IsNotSentIn M.Machine (O.meaning ops.now) receiver.old input self.old at) }
         ensures memory { (asked sent : ℕ) →
@@ -248,6 +249,7 @@ impl<M: Machine> Inputs<M> {
         input: u64,
     ) -> Result<(), NotMade>
         ensures made { OnOk result (IsStepped (IsPickedHere M.Machine (O.meaning ops.now) input) M.ended self.old at self.new) }
+        ensures after { OnOk result (IsStepped (IsAfterPick M.Machine input) M.ended self.old at self.new) }
         ensures err { IfErr result (IsNotMade (can_pick_in M.Machine input (station self.old at))) }
         ensures memory { step_allocates_in M.Machine (O.allocates ops.now) (station self.old at) ≡ false → OnlyNotEnabled result }
         ensures same { OnErr result (self.new ≡ self.old) }
@@ -484,6 +486,7 @@ fn send_over<M: Machine, O: Ops<Item = M::Item>>(
 ) -> Result<(), NotMade>
     ensures made { OnOk result (
         IsCarried M.Machine (O.meaning ops.now) receiver.old input edge.old sender.old receiver.new edge.new sender.new) }
+    ensures received { OnOk result (IsReceivedBy M.Machine (O.meaning ops.now) receiver.old input sender.old receiver.new) }
     ensures err { IfErr result (IsNotMade (
         can_send_over M.Machine (O.meaning ops.now) receiver.old input (edge_view edge.old) sender.old)) }
     ensures memory { send_over_allocates M.Machine (O.allocates ops.now) receiver.old sender.old ≡ false → OnlyNotEnabled result }

@@ -28,11 +28,11 @@ impl<M: Machine> Node<M> {
     ghost use Rattle.rsx_tree.specs.Allocates.{IsAlike, tree_allocates};
     ghost use Rattle.rsx_tree.specs.Driven.{IsDriven, IsIdle, IsIdleAt, Spent};
     ghost use Rattle.rsx_tree.specs.Edges.{closed_view, edge_view};
-    ghost use Rattle.rsx_tree.specs.Stepped.{IsPickMadeAt, IsRowMadeAt, can_pick_in, can_row_in, station_of, step_allocates};
+    ghost use Rattle.rsx_tree.specs.Stepped.{IsAfterPickAt, IsPickMadeAt, IsRowMadeAt, can_pick_in, can_row_in, station_of, step_allocates};
     ghost use Rattle.rsx_tree.specs.Balance.{IsBalanced};
     ghost use Rattle.rsx_tree.specs.Chosen.{IsChosen, IsPickedAt, IsRowAt};
     ghost use Rattle.rsx_tree.specs.Look.{IsEnabledAt};
-    ghost use Rattle.rsx_tree.specs.Tree.{notes, edges, offers, popped, IsPopped, IsKept, IsAllClosed, can_ask, can_send, send_allocates, IsAskedAt, IsSentAt};
+    ghost use Rattle.rsx_tree.specs.Tree.{notes, edges, offers, popped, IsPopped, IsKept, IsAllClosed, can_ask, can_send, send_allocates, IsAskedAt, IsReceivedAt, IsSentAt};
     ghost use Rattle.rsx_tree.specs.Inputs.{closed_row};
     ghost use Rattle.rsx_tree.specs.Refusals.{IsNotEnabled, OnlyNotEnabled};
     ghost use Rattle.rsx_tree.specs.Residual.{IsTreeResidual};
@@ -113,6 +113,7 @@ impl<M: Machine> Node<M> {
         ensures chosen { OnOk result (IsChosen M.Machine (O.meaning ops.now) self.old self.new) }
         ensures ok { OnOk result (can_send M.Machine (O.meaning ops.now) self.old at ≡ true) }
         ensures effect { OnOk result (IsSentAt M.Machine (O.meaning ops.now) self.old at self.new) }
+        ensures received { OnOk result (IsReceivedAt M.Machine (O.meaning ops.now) self.old at self.new) }
         ensures balance { OnOk result ((s : ℕ) → IsBalanced M.Machine self.old s → IsBalanced M.Machine self.new s) }
         ensures err { IfErr result (IsNotMade (can_send M.Machine (O.meaning ops.now) self.old at)) }
         ensures memory { send_allocates M.Machine (O.allocates ops.now) self.old at ≡ false → OnlyNotEnabled result }
@@ -146,6 +147,7 @@ impl<M: Machine> Node<M> {
         ensures made { OnOk result (IsPickMadeAt M.Machine (O.meaning ops.now) input self.old (edge_view root.now) at self.new) }
         ensures enabled { OnOk result (can_pick_in M.Machine input (station_of self.old (edge_view root.now) at) ≡ true) }
         ensures effect { OnOk result (IsPickedAt M.Machine self.old (edge_view root.now) at input self.new) }
+        ensures after { OnOk result (IsAfterPickAt M.Machine input self.old (edge_view root.now) at self.new) }
         ensures chosen { OnOk result (IsChosen M.Machine (O.meaning ops.now) self.old self.new) }
         ensures balance { OnOk result ((s : ℕ) → IsBalanced M.Machine self.old s → IsBalanced M.Machine self.new s) }
         ensures err { IfErr result (IsNotMade (can_pick_in M.Machine input (station_of self.old (edge_view root.now) at))) }

@@ -5,7 +5,7 @@ ghost use Rattle.rsx_sources.specs.Steps.{IsNotMade};
 ghost use Rattle.rsx_tree.specs.Fetched.{IsStepOut};
 ghost use Rattle.rsx_tree.specs.Inputs.{size};
 ghost use Rattle.rsx_tree.specs.Refusals.{OnlyNotEnabled};
-ghost use Rattle.rsx_tree.specs.Stepped.{IsPickOver, IsRowOver, IsStepOf, IsStepOver, IsStill, can_pick_in, can_row_in, over};
+ghost use Rattle.rsx_tree.specs.Stepped.{IsAfterPick, IsPickOver, IsRowOver, IsStepOf, IsStepOver, IsStill, can_pick_in, can_row_in, over};
 
 use crate::edge::Edge;
 use crate::inputs::Inputs;
@@ -23,6 +23,7 @@ pub(crate) fn pick_over<M: Machine, O: Ops<Item = M::Item>>(
     input: u64,
 ) -> Result<(), NotMade>
     ensures made { OnOk result (IsPickOver M.Machine (O.meaning ops.now) input edge.now node.old below.old node.new below.new) }
+    ensures after { OnOk result (IsStepOver (IsAfterPick M.Machine input) M.ended edge.now node.old below.old node.new below.new) }
     ensures err { IfErr result (IsNotMade (can_pick_in M.Machine input (Some (over edge.now node.old)))) }
     ensures memory { M.step_allocates (O.allocates ops.now) node.old ≡ false → OnlyNotEnabled result }
     ensures same { OnErr result ((node.new ≡ node.old) × (below.new ≡ below.old)) }

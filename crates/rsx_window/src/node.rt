@@ -83,7 +83,7 @@ impl<T: Drop> WindowNode<T> {
 impl<T: Drop> Machine for WindowNode<T> {
     type Item = T;
 
-    ghost use Rattle.std.specs.Prelude.{◌≡◌, true, false, refl, None, IfOk, IfErr, IsOk, OnOk, OnErr};
+    ghost use Rattle.std.specs.Prelude.{◌≡◌, ⊤, true, false, refl, None, IfOk, IfErr, IsOk, OnOk, OnErr};
     ghost use Rattle.rsx_types.specs.declared.note.Note.TheVariants.{Nothing};
     ghost use Rattle.rsx_sources.specs.Counts.{CountsIn, CountsOut, CountsStep};
     ghost use Rattle.rsx_sources.specs.Machine.{TakesIn};
@@ -107,6 +107,12 @@ impl<T: Drop> Machine for WindowNode<T> {
     ghost rows = { λ n a s. false };
 
     ghost rowed = { λ n a s k. ⊥ };
+
+    ghost took = { λ n i s new. ⊤ };
+
+    ghost heard = { λ n s new. ⊤ };
+
+    ghost picked = { λ n i new. ⊤ };
 
     ghost recording = { λ n i. Nothing };
 

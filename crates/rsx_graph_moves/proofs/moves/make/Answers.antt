@@ -1,7 +1,7 @@
 use Rattle.std.proofs.Common.{rules}
 use Rattle.rsx_graph_state.specs.Prelude.{rows_of, StandsFor}
 use Rattle.rsx_graph_moves.proofs.moves.make.Goals as goal
-use Rattle.rsx_graph_moves.proofs.moves.make.Goals.{in-Ask-Feed-default, in-Ask-Feed-default-2, in-Ask-Feed-default-3, in-Ask-Feed-default-4, in-Ask-Feed-default-5}
+use Rattle.rsx_graph_moves.proofs.moves.make.Goals.{in-Ask-Sub-default, in-Ask-Sub-default-2, in-Ask-Sub-default-3, in-Ask-Sub-default-4, in-Ask-Feed-default, in-Ask-Feed-default-2, in-Ask-Feed-default-3, in-Ask-Feed-default-4, in-Ask-Feed-default-5}
 
 pub returns-in-Ok-make_in_tree-clause-stands : goal.returns-in-Ok-make_in_tree-clause-stands
 returns-in-Ok-make_in_tree-clause-stands g c = λ h s.
@@ -18,4 +18,12 @@ returns-in-Ok-make_of_feed-clause-stands g c = elim c.in-Ask-Feed-default-1.bran
   | in-Ask-Feed-default-3 w ↦ search rules
   | in-Ask-Feed-default-4 w ↦ search rules
   | in-Ask-Feed-default-5 w ↦ search rules
+]
+
+pub returns-in-Ok-make_in_tree-clause-alone : goal.returns-in-Ok-make_in_tree-clause-alone
+returns-in-Ok-make_in_tree-clause-alone g c = elim c.in-Ask-Sub-default-1.branch [
+  | in-Ask-Sub-default w ↦ search rules
+  | in-Ask-Sub-default-2 w ↦ search rules
+  | in-Ask-Sub-default-3 w ↦ search rules
+  | in-Ask-Sub-default-4 w ↦ search rules
 ]

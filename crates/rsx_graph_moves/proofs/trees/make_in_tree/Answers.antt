@@ -1,5 +1,6 @@
 use Rattle.std.proofs.Common.{◌<◌, ◌∙◌, arith, length, refl, sym}
 use Rattle.std.proofs.lemmas.List.{length-set}
+use Rattle.rsx_graph_state.proofs.Alone.{alone_at}
 use Rattle.rsx_graph_state.proofs.Graphs.{AllStand-moved, allocates_there, enabled_there, found, set_same}
 use Rattle.rsx_subscriber.proofs.Moves.{inside_effect, inside_enabled}
 use Rattle.rsx_graph_moves.proofs.trees.make_in_tree.Goals as goal
@@ -39,6 +40,14 @@ returns-in-Ok-clause-effect g c =
       effect = inside_effect g.N.Machine g.N.Nodes m c.args.step c.index_mut-subscription.result.now c.make.new.self c.requires c.in-Ok.ensures.effect;
       others = refl;
     }
+
+pub returns-in-Ok-clause-alone : goal.returns-in-Ok-clause-alone
+returns-in-Ok-clause-alone g c =
+    let m = g.O.Ops.meaning c.args.ops.now in
+    let l = c.len.ensures in
+    let within : c.args.sub.0 < length c.args.subscriptions.now.items = omega (arith, l, c.if-at-len.false) in
+    alone_at g.N.Machine g.N.Nodes m c.args.step c.args.sub.0 c.args.subscriptions.now.items c.index_mut-subscription.result.now c.make.new.self
+    (found c.args.subscriptions.now.items c.args.sub.0 c.index_mut-subscription.result.now within (sym c.index_mut-subscription.ensures.value)) c.in-Ok.ensures.alone
 
 pub returns-in-Err-NotEnabled-clause-err : goal.returns-in-Err-NotEnabled-clause-err
 returns-in-Err-NotEnabled-clause-err g c =

@@ -1,4 +1,5 @@
 use Rattle.std.proofs.Common.{◌<◌, ◌∙◌, arith, false, length, refl, sym, true}
+use Rattle.rsx_graph_state.proofs.Alone.{alone_out}
 use Rattle.rsx_graph_state.proofs.Calls.{known_feed, place_is, out_allocates, out_enabled, out_moved, unknown_feed, unknown_hub, work_allocates, work_enabled, work_moved}
 use Rattle.rsx_graph_state.proofs.Kept.{feed_moved_stands}
 use Rattle.rsx_graph_state.proofs.Places.{feed_placed}
@@ -33,6 +34,10 @@ returns-in-Ok-clause-effect g c =
     let old = rows_of c.args.hubs.now.items c.args.feeds.now.items c.args.subscriptions.now.items in
     let new = rows_of c.send_once.new.hubs.items c.send_once.new.feeds.items c.send_once.new.subscriptions.items in
     out_moved g.N.Machine (g.O.Ops.meaning c.args.ops.now) c.args.hub.0 old new c.args.step (sym c.is_out.ensures ∙ c.in-true.is) c.in-Ok.ensures.effect
+
+pub returns-in-Ok-clause-alone : goal.returns-in-Ok-clause-alone
+returns-in-Ok-clause-alone g c = λ at old new place was now.
+    alone_out g.N.Machine (g.O.Ops.meaning c.args.ops.now) c.args.step old.part new.part (sym c.is_out.ensures ∙ c.in-true.is)
 
 pub returns-in-Ok-clause-enabled : goal.returns-in-Ok-clause-enabled
 returns-in-Ok-clause-enabled g c =

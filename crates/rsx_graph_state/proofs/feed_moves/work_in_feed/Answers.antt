@@ -1,5 +1,6 @@
 use Rattle.std.proofs.Common.{◌∙◌, Bool, ap, refl, subst, sym}
 use Rattle.std.proofs.lemmas.List.{length-set}
+use Rattle.rsx_graph_state.proofs.Alone.{alone_in_feed}
 use Rattle.rsx_graph_state.proofs.Graphs.{found, set_same}
 use Rattle.rsx_pipe.specs.Part.{IsMade}
 use Rattle.rsx_sources.specs.Steps.{IsNotMade}
@@ -27,6 +28,13 @@ returns-in-Ok-clause-effect g c =
       effect = subst (λ o. IsMade g.N.Machine (g.O.Ops.meaning c.args.ops.now) c.args.step x.part o c.make.new.self) (sym k.2) k.1;
       others = refl;
     }
+
+pub returns-in-Ok-clause-alone : goal.returns-in-Ok-clause-alone
+returns-in-Ok-clause-alone g c =
+    let fs = c.args.feeds.now.items in
+    let x = c.index_mut-feed.result.now in
+    alone_in_feed g.N.Machine (g.O.Ops.meaning c.args.ops.now) c.args.step c.args.hub.0 c.args.at fs x (record { part = c.make.new.self; hub = x.hub })
+    c.requires.place (found fs c.args.at x c.requires.within (sym c.index_mut-feed.ensures.value)) c.in-Ok.ensures.alone
 
 pub returns-in-Ok-clause-enabled : goal.returns-in-Ok-clause-enabled
 returns-in-Ok-clause-enabled g c =

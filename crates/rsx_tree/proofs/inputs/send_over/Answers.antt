@@ -34,5 +34,13 @@ returns-in-Ok-clause-made g c = λ asked sent.
       alike_out = c.pop_front.ensures.alike;
     }
 
+pub returns-in-Ok-clause-received : goal.returns-in-Ok-clause-received
+returns-in-Ok-clause-received g c =
+    let b = g.M.Machine in
+    let m = g.O.Ops.meaning c.args.ops.now in
+    let s = c.in-Ok-Some.signal in
+    let both = given_out b m c.args.sender.now c.pop_front.new.self (b.popping c.args.sender.now) c.in-Ok-Some.field-0 s refl c.in-Ok-Some.field-0-is c.in-Ok-Some.ensures.ok c.pop_front.ensures.recorded c.in-Ok-Some.ensures.counts in
+    record { signal = s; offered = both.0.waited; took = c.in-Ok.ensures.made }
+
 pub returns-in-Err-clause-err : goal.returns-in-Err-clause-err
 returns-in-Err-clause-err g c = search rules

@@ -17,6 +17,7 @@ pub returns-in-FlatMap : goal.returns-in-FlatMap
 returns-in-FlatMap g c = rw c.in-FlatMap.is (record {
   ok = c.on_pick-in-FlatMap.ensures.ok;
   enabled = c.on_pick-in-FlatMap.ensures.enabled;
+  made = on_ok_weaker c.on_pick-in-FlatMap.result (λ e. _) c.on_pick-in-FlatMap.ensures.enabled;
   recorded = c.on_pick-in-FlatMap.ensures.recorded;
   composes = c.on_pick-in-FlatMap.ensures.composes;
   counts = on_ok_weaker c.on_pick-in-FlatMap.result (stepped_flat_map c.in-FlatMap.node c.on_pick-in-FlatMap.new.self) c.on_pick-in-FlatMap.ensures.counts;
@@ -30,6 +31,7 @@ pub returns-in-FlatMapDelay : goal.returns-in-FlatMapDelay
 returns-in-FlatMapDelay g c = rw c.in-FlatMapDelay.is (record {
   ok = c.on_pick-in-FlatMapDelay.ensures.ok;
   enabled = c.on_pick-in-FlatMapDelay.ensures.enabled;
+  made = on_ok_weaker c.on_pick-in-FlatMapDelay.result (λ e. _) c.on_pick-in-FlatMapDelay.ensures.enabled;
   recorded = c.on_pick-in-FlatMapDelay.ensures.recorded;
   composes = c.on_pick-in-FlatMapDelay.ensures.composes;
   counts = on_ok_weaker c.on_pick-in-FlatMapDelay.result (stepped_flat_map_delay c.in-FlatMapDelay.node c.on_pick-in-FlatMapDelay.new.self) c.on_pick-in-FlatMapDelay.ensures.counts;
@@ -43,6 +45,7 @@ pub returns-in-PublishOnEager : goal.returns-in-PublishOnEager
 returns-in-PublishOnEager g c = rw c.in-PublishOnEager.is (record {
   ok = c.on_pick-in-PublishOnEager.ensures.ok;
   enabled = c.on_pick-in-PublishOnEager.ensures.enabled;
+  made = on_ok_weaker c.on_pick-in-PublishOnEager.result (λ e. _) c.on_pick-in-PublishOnEager.ensures.enabled;
   recorded = c.on_pick-in-PublishOnEager.ensures.recorded;
   composes = c.on_pick-in-PublishOnEager.ensures.composes;
   counts = on_ok_weaker c.on_pick-in-PublishOnEager.result (stepped_publish_on_eager c.in-PublishOnEager.node c.on_pick-in-PublishOnEager.new.self) c.on_pick-in-PublishOnEager.ensures.counts;
@@ -56,6 +59,7 @@ pub returns-in-GroupBy : goal.returns-in-GroupBy
 returns-in-GroupBy g c = rw c.in-GroupBy.is (record {
   ok = c.on_pick-in-GroupBy.ensures.ok;
   enabled = c.on_pick-in-GroupBy.ensures.enabled;
+  made = on_ok_weaker c.on_pick-in-GroupBy.result (λ e. _) c.on_pick-in-GroupBy.ensures.enabled;
   recorded = c.on_pick-in-GroupBy.ensures.recorded;
   composes = c.on_pick-in-GroupBy.ensures.composes;
   counts = on_ok_weaker c.on_pick-in-GroupBy.result (stepped_group_by c.in-GroupBy.node c.on_pick-in-GroupBy.new.self) c.on_pick-in-GroupBy.ensures.counts;

@@ -8,6 +8,7 @@ pub returns-in-Several : goal.returns-in-Several
 returns-in-Several g c = rw c.in-Several.is (record {
   ok = c.on_signal-in-Several.ensures.ok;
   enabled = c.on_signal-in-Several.ensures.enabled;
+  made = c.on_signal-in-Several.ensures.made;
   recorded = c.on_signal-in-Several.ensures.recorded;
   counts = on_ok_weaker c.on_signal-in-Several.result (taken_several c.in-Several.node c.on_signal-in-Several.new.self c.args.input c.args.signal) c.on_signal-in-Several.ensures.counts;
   err = c.on_signal-in-Several.ensures.err;
@@ -20,6 +21,7 @@ pub returns-in-PublishOn : goal.returns-in-PublishOn
 returns-in-PublishOn g c = rw c.in-PublishOn.is (record {
   ok = c.on_signal-in-PublishOn.ensures.ok;
   enabled = c.on_signal-in-PublishOn.ensures.enabled;
+  made = on_ok_weaker c.on_signal-in-PublishOn.result (λ e. _) c.on_signal-in-PublishOn.ensures.enabled;
   recorded = refl;
   counts = on_ok_weaker c.on_signal-in-PublishOn.result (taken_publish_on c.in-PublishOn.node c.on_signal-in-PublishOn.new.self c.args.input c.args.signal) c.on_signal-in-PublishOn.ensures.counts;
   err = c.on_signal-in-PublishOn.ensures.err;
@@ -32,6 +34,7 @@ pub returns-in-Window : goal.returns-in-Window
 returns-in-Window g c = rw c.in-Window.is (record {
   ok = c.on_signal-in-Window.ensures.ok;
   enabled = c.on_signal-in-Window.ensures.enabled;
+  made = on_ok_weaker c.on_signal-in-Window.result (λ e. _) c.on_signal-in-Window.ensures.enabled;
   recorded = refl;
   counts = on_ok_weaker c.on_signal-in-Window.result (taken_window c.in-Window.node c.on_signal-in-Window.new.self c.args.input c.args.signal) c.on_signal-in-Window.ensures.counts;
   err = c.on_signal-in-Window.ensures.err;
@@ -44,6 +47,7 @@ pub returns-in-FlatMap : goal.returns-in-FlatMap
 returns-in-FlatMap g c = rw c.in-FlatMap.is (record {
   ok = c.on_signal-in-FlatMap.ensures.ok;
   enabled = c.on_signal-in-FlatMap.ensures.enabled;
+  made = on_ok_weaker c.on_signal-in-FlatMap.result (λ e. _) c.on_signal-in-FlatMap.ensures.enabled;
   recorded = c.on_signal-in-FlatMap.ensures.recorded;
   counts = on_ok_weaker c.on_signal-in-FlatMap.result (taken_flat_map c.in-FlatMap.node c.on_signal-in-FlatMap.new.self c.args.input c.args.signal) c.on_signal-in-FlatMap.ensures.counts;
   err = c.on_signal-in-FlatMap.ensures.err;
@@ -56,6 +60,7 @@ pub returns-in-FlatMapDelay : goal.returns-in-FlatMapDelay
 returns-in-FlatMapDelay g c = rw c.in-FlatMapDelay.is (record {
   ok = c.on_signal-in-FlatMapDelay.ensures.ok;
   enabled = c.on_signal-in-FlatMapDelay.ensures.enabled;
+  made = on_ok_weaker c.on_signal-in-FlatMapDelay.result (λ e. _) c.on_signal-in-FlatMapDelay.ensures.enabled;
   recorded = c.on_signal-in-FlatMapDelay.ensures.recorded;
   counts = on_ok_weaker c.on_signal-in-FlatMapDelay.result (taken_flat_map_delay c.in-FlatMapDelay.node c.on_signal-in-FlatMapDelay.new.self c.args.input c.args.signal) c.on_signal-in-FlatMapDelay.ensures.counts;
   err = c.on_signal-in-FlatMapDelay.ensures.err;
@@ -68,6 +73,7 @@ pub returns-in-PublishOnEager : goal.returns-in-PublishOnEager
 returns-in-PublishOnEager g c = rw c.in-PublishOnEager.is (record {
   ok = c.on_signal-in-PublishOnEager.ensures.ok;
   enabled = c.on_signal-in-PublishOnEager.ensures.enabled;
+  made = on_ok_weaker c.on_signal-in-PublishOnEager.result (λ e. _) c.on_signal-in-PublishOnEager.ensures.enabled;
   recorded = c.on_signal-in-PublishOnEager.ensures.recorded;
   counts = on_ok_weaker c.on_signal-in-PublishOnEager.result (taken_publish_on_eager c.in-PublishOnEager.node c.on_signal-in-PublishOnEager.new.self c.args.input c.args.signal) c.on_signal-in-PublishOnEager.ensures.counts;
   err = c.on_signal-in-PublishOnEager.ensures.err;
@@ -80,6 +86,7 @@ pub returns-in-GroupBy : goal.returns-in-GroupBy
 returns-in-GroupBy g c = rw c.in-GroupBy.is (record {
   ok = c.on_signal-in-GroupBy.ensures.ok;
   enabled = c.on_signal-in-GroupBy.ensures.enabled;
+  made = on_ok_weaker c.on_signal-in-GroupBy.result (λ e. _) c.on_signal-in-GroupBy.ensures.enabled;
   recorded = c.on_signal-in-GroupBy.ensures.recorded;
   counts = on_ok_weaker c.on_signal-in-GroupBy.result (taken_group_by c.in-GroupBy.node c.on_signal-in-GroupBy.new.self c.args.input c.args.signal) c.on_signal-in-GroupBy.ensures.counts;
   err = c.on_signal-in-GroupBy.ensures.err;

@@ -8,6 +8,7 @@ pub returns-in-Concat : goal.returns-in-Concat
 returns-in-Concat g c = rw c.in-Concat.is (record {
   ok = c.on_signal.ensures.ok;
   enabled = c.on_signal.ensures.enabled;
+  made = on_ok_weaker c.on_signal.result (λ e. _) c.on_signal.ensures.enabled;
   recorded = refl;
   counts = on_ok_weaker c.on_signal.result (taken_concat c.in-Concat.node c.on_signal.new.self c.args.input c.args.signal) c.on_signal.ensures.counts;
   err = c.on_signal.ensures.err;
@@ -20,6 +21,7 @@ pub returns-in-Merge : goal.returns-in-Merge
 returns-in-Merge g c = rw c.in-Merge.is (record {
   ok = c.on_signal-in-Merge.ensures.ok;
   enabled = c.on_signal-in-Merge.ensures.enabled;
+  made = on_ok_weaker c.on_signal-in-Merge.result (λ e. _) c.on_signal-in-Merge.ensures.enabled;
   recorded = c.on_signal-in-Merge.ensures.recorded;
   counts = on_ok_weaker c.on_signal-in-Merge.result (taken_merge c.in-Merge.node c.on_signal-in-Merge.new.self c.args.input c.args.signal) c.on_signal-in-Merge.ensures.counts;
   err = c.on_signal-in-Merge.ensures.err;
@@ -32,6 +34,7 @@ pub returns-in-MergeDelay : goal.returns-in-MergeDelay
 returns-in-MergeDelay g c = rw c.in-MergeDelay.is (record {
   ok = c.on_signal-in-MergeDelay.ensures.ok;
   enabled = c.on_signal-in-MergeDelay.ensures.enabled;
+  made = on_ok_weaker c.on_signal-in-MergeDelay.result (λ e. _) c.on_signal-in-MergeDelay.ensures.enabled;
   recorded = c.on_signal-in-MergeDelay.ensures.recorded;
   counts = on_ok_weaker c.on_signal-in-MergeDelay.result (taken_merge_delay c.in-MergeDelay.node c.on_signal-in-MergeDelay.new.self c.args.input c.args.signal) c.on_signal-in-MergeDelay.ensures.counts;
   err = c.on_signal-in-MergeDelay.ensures.err;
@@ -44,6 +47,7 @@ pub returns-in-Zip : goal.returns-in-Zip
 returns-in-Zip g c = rw c.in-Zip.is (record {
   ok = c.on_signal-in-Zip.ensures.ok;
   enabled = c.on_signal-in-Zip.ensures.enabled;
+  made = c.on_signal-in-Zip.ensures.made;
   recorded = c.on_signal-in-Zip.ensures.recorded;
   counts = on_ok_weaker c.on_signal-in-Zip.result (taken_zip c.in-Zip.node c.on_signal-in-Zip.new.self c.args.input c.args.signal) c.on_signal-in-Zip.ensures.counts;
   err = c.on_signal-in-Zip.ensures.err;
@@ -56,6 +60,7 @@ pub returns-in-Latest : goal.returns-in-Latest
 returns-in-Latest g c = rw c.in-Latest.is (record {
   ok = c.on_signal-in-Latest.ensures.ok;
   enabled = c.on_signal-in-Latest.ensures.enabled;
+  made = c.on_signal-in-Latest.ensures.made;
   recorded = c.on_signal-in-Latest.ensures.recorded;
   counts = on_ok_weaker c.on_signal-in-Latest.result (taken_latest c.in-Latest.node c.on_signal-in-Latest.new.self c.args.input c.args.signal) c.on_signal-in-Latest.ensures.counts;
   err = c.on_signal-in-Latest.ensures.err;
