@@ -104,7 +104,7 @@ impl<T: Drop> Prefetch<T> {
         ensures credited { spec.credits self.old.capacity self.old.taken ≤ spec.credits self.new.capacity self.new.taken }
     {
         let item = self.ring.pop_front()?;
-        self.taken = saturating_total(self.taken, 1);
+        self.count_taken();
         Some(item)
     }
 
@@ -132,8 +132,7 @@ impl<T: Drop> Prefetch<T> {
     pub fn count_taken(&mut self)
         ensures { self.new ≡ queue self.old.items self.old.capacity (saturating_total self.old.taken 1) }
     {
-        let taken = saturating_total(self.taken, 1);
-        self.taken = taken;
+        self.taken += (self.taken < UNBOUNDED) as u64;
     }
 
     /// Counts so many items more as taken, which never stood in the queue: what putting each of them in and taking it out again counts.
