@@ -21,10 +21,9 @@ pub enum Pumped {
 
 /// One tree of nodes with its edges: the edge from its root, and those below it.
 ///
-/// What the root sends goes into a [`Sink`] that each call is handed: the queue of a subscription's root edge, or [`crate::NoRoom`],
-/// over which only the moves inside the tree are made. All that went over
-/// the root edge, followed by what still comes out of the tree, is the expression that the tree was made for. The nodes
-/// are numbered in pre-order from 0, and an edge has the number of the node that sends over it.
+/// What the root sends goes into a [`Sink`] that each call is handed: the queue of a subscription's root edge, or [`crate::NoRoom`], over
+/// which only the moves inside the tree are made. All that went over the root edge, followed by what still comes out of the tree, is the
+/// expression that the tree was made for. Nodes are numbered in pre-order from 0, and an edge has the number of the node that sends over it.
 #[derive(Drop)]
 pub struct Rooted<M> {
     /// The tree.
