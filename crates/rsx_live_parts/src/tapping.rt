@@ -11,21 +11,12 @@ ghost use Rattle.rsx_runtime.specs.Tapping.{IsTapOf, KeepsTap};
 
 use crate::lives::LiveSubscriptions;
 use rsx_pipe::Nodes;
+use rsx_rooted::Batches;
 use rsx_runtime::{Live, Poked, RegionSeat, Tap};
 use rsx_types::{Ops, Signal, SubId};
 use std::alloc::Global;
 
-/// A thread may take, request and cancel by the taps of live subscriptions while other threads have the seats of their regions. None of
-/// these calls waits, and but for [`LiveSubscriptions::poke`] none takes memory.
-impl<N: Nodes<Item = T>, T: Drop, O: Ops<Item = T>> LiveSubscriptions<N, T, O> {
-    ghost use Rattle.std.specs.Prelude.{◌≡◌, ◌≤◌, ◌⊎◌, length, IfNone, IfSome, None};
-    ghost use Rattle.std.specs.List.{AllZip};
-    ghost use Rattle.rsx_gate.specs.Machine.{all_parts};
-    ghost use Rattle.rsx_gate.specs.Seats.{IsSeatOf};
-    ghost use Rattle.rsx_live_parts.specs.Kept.{AreTapsFrom};
-    ghost use Rattle.rsx_live_parts.specs.Tapping.{ChangesAt, HasNoTap, TapCancels, TapChanges, TapRequests, Takes};
-    ghost use Rattle.rsx_runtime.specs.Poking.{Went};
-
+impl<N: Nodes<Item = T> + Batches, T: Drop, O: Ops<Item = T>> LiveSubscriptions<N, T, O> {
     /// Works on the region with this number, as [`Live::poke`] does, by its seat. There is a seat for each region, in their order, each
     /// with all parts. Where there is no such region it does nothing, and there is no answer.
     pub fn poke(
@@ -45,6 +36,14 @@ impl<N: Nodes<Item = T>, T: Drop, O: Ops<Item = T>> LiveSubscriptions<N, T, O> {
         }
         Some(poke_at(alloc, &self.live, seats, region, budget))
     }
+}
+
+/// A thread may take, request and cancel by the taps of live subscriptions while other threads have the seats of their regions. None of
+/// these calls waits, and none takes memory.
+impl<N: Nodes<Item = T>, T: Drop, O: Ops<Item = T>> LiveSubscriptions<N, T, O> {
+    ghost use Rattle.std.specs.Prelude.{◌≡◌, ◌⊎◌, None};
+    ghost use Rattle.rsx_live_parts.specs.Kept.{AreTapsFrom};
+    ghost use Rattle.rsx_live_parts.specs.Tapping.{HasNoTap, TapCancels, TapChanges, TapRequests, Takes};
 
     /// Takes the next signal that was delivered to this subscription, if one waits, as [`Tap::take`] does, by its tap, which is one of
     /// these. A subscription that has no tap gets nothing before the close.
@@ -102,7 +101,7 @@ fn place_of<T: Drop>(taps: &[Tap<T>], sub: SubId) -> Option<usize>
 }
 
 /// Works on the region with this number by its seat.
-fn poke_at<N: Nodes<Item = T>, T: Drop, O: Ops<Item = T>>(
+fn poke_at<N: Nodes<Item = T> + Batches, T: Drop, O: Ops<Item = T>>(
     alloc: Global,
     live: &Live<N, T, O>,
     seats: &mut Vec<RegionSeat<N, T, O>>,

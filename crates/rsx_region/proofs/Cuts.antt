@@ -95,9 +95,9 @@ joined_again b crossing law old new part below at hub before reader queue r cut 
 
 -- ---- the link that is made
 
-pub reader_made : {M T : Type 0} (b : Machine M T) (crossing : CrossingNodes M T) (member : MemberState T) (hub before : ℕ) (n : M) → member ≡ empty_member 1 0 0 → crossing.held n ≡ Some member.queue → b.reads n ≡ Some (record { hub = hub; reached = member.reached; missed = 0; before = before }) → b.ended n ≡ false →
+pub reader_made : {M T : Type 0} (b : Machine M T) (crossing : CrossingNodes M T) (member : MemberState T) (places hub before : ℕ) (n : M) → member ≡ empty_member places 0 0 → crossing.held n ≡ Some member.queue → b.reads n ≡ Some (record { hub = hub; reached = member.reached; missed = 0; before = before }) → b.ended n ≡ false →
     ((taken : List ℕ) (sent : ℕ) → sent + length member.queue ≡ member.reached + before → b.counted n taken sent) → IsReader b crossing hub before n
-reader_made b crossing member hub before n is held reads goes_on counted =
+reader_made b crossing member places hub before n is held reads goes_on counted =
     let queue : member.queue ≡ [] = ap (λ x. x.queue) is in
     let reached : member.reached ≡ 0 = ap (λ x. x.reached) is in
     record {

@@ -101,8 +101,11 @@ link_left {M} {T} b taken p h j came came' d c same come st =
     let P : List (Stream T) → Type 0 = λ l. LinkStands b l p j d c in
     subst P (sym is) st
 
+-- where an end looked at its queue
+pub link_seen : {M T : Type 0} (b : Machine M T) (taken : List (Stream T)) (p : Part M) (h : ℕ) (d d' : Down T) (c : CancelSeat) → received_signals d' ≡ received_signals d → down_steps d' ≡ down_steps d → carried_down d' ≡ carried_down d → LinkStands b taken p h d c → LinkStands b taken p h d' c
+link_seen b taken p h d d' c same steps carried st =
+    let R : ℕ → Type 0 = λ n. HaveReached h n (readings b p.tree) in
+    link_kept b taken taken p p h d d' c (ap asked_of steps) carried (st.came ∙ ap (λ l. Some (stream_of l)) (sym same)) (subst R (ap items_in (sym same)) st.reached) (go_same (readings b p.tree)) (all_grow_same (all_edges p)) st
+
 pub link_still : {M T : Type 0} (b : Machine M T) (taken : List (Stream T)) (p : Part M) (h : ℕ) (d d' : Down T) (c : CancelSeat) → received_signals d' ≡ received_signals d → down_steps d' ≡ down_steps d → carried_down d' ≡ carried_down d → LinkStands b taken p h d c → LinkStands b (replaced_at h (stream_of (received_signals d')) taken) p h d' c
-link_still b taken p h d d' c same steps carried st =
-    link_left b taken p h h (received_signals d) (received_signals d') d' c same st.came
-    (let R : ℕ → Type 0 = λ n. HaveReached h n (readings b p.tree) in
-    link_kept b taken taken p p h d d' c (ap asked_of steps) carried (st.came ∙ ap (λ l. Some (stream_of l)) (sym same)) (subst R (ap items_in (sym same)) st.reached) (go_same (readings b p.tree)) (all_grow_same (all_edges p)) st)
+link_still b taken p h d d' c same steps carried st = link_left b taken p h h (received_signals d) (received_signals d') d' c same st.came (link_seen b taken p h d d' c same steps carried st)

@@ -1,4 +1,5 @@
 pub mod Asks
+pub mod AtOnce
 pub mod Balances
 pub mod Beside
 pub mod Between
@@ -26,6 +27,7 @@ pub mod Opened
 pub mod Openings
 pub mod Pieces
 pub mod Places
+pub mod Pops
 pub mod Reached
 pub mod Refusals
 pub mod Regions
@@ -40,4 +42,5 @@ pub mod Singles
 pub mod Spliced
 pub mod Stages
 pub mod Stands
+pub mod Takings
 pub mod Wholes

@@ -1,6 +1,5 @@
 -- Steps of a piece, one after the other.
-use Rattle.std.proofs.Common.{◌≡◌, ℕ, ◌+◌, ◌≤◌, Bool, true, false, cond, List, [], ◌∷◌, ◌++◌, refl, sym, ◌∙◌, arith}
-use mir.Val.{bool_byte as from_bool}
+use Rattle.std.proofs.Common.{◌≡◌, ℕ, ◌+◌, Bool, true, false, cond, List, [], ◌∷◌, ◌++◌, refl, sym, ◌∙◌, arith}
 use Rattle.rsx_sources.specs.Prelude.{Meaning}
 use Rattle.rsx_sources.specs.declared.machine.Machine.{Ghosts as Machine}
 use Rattle.rsx_tree.proofs.Runs.{leads_on}
@@ -49,21 +48,9 @@ plus_none n x h = omega (arith, h)
 pub none_plus : (n x : ℕ) → x ≡ n → 0 + n ≡ x
 none_plus n x h = omega (arith, h)
 
-pub one_more : (n k most : ℕ) (f : Bool) → n ≤ most → (n ≡ most → ⊥) → k ≡ cond f 1 0 → n + k ≤ most
-one_more n k most true h other e = omega (arith, h, other, e)
-one_more n k most false h other e = omega (arith, h, e)
-
-pub none_of : (n k : ℕ) (f : Bool) → n + k ≡ 0 → k ≡ cond f 1 0 → f ≡ false
-none_of n k true h e = absurd (omega (arith, h, e))
-none_of n k false h e = refl
-
 pub one_made : (f : Bool) (k x : ℕ) → f ≡ true → x ≡ 1 + k → cond f 1 0 + k ≡ x
 one_made true k x is e = sym e
 one_made false k x is e = cc
-
-pub byte_cond : (f : Bool) → from_bool f ≡ cond f 1 0
-byte_cond true = refl
-byte_cond false = refl
 
 -- a look, requests, and signals that were taken
 pub goes_three : {M T : Type 0} (b : Machine M T) (m : Meaning T) (links : List (Link T)) (n : ℕ) (p q r s : Piece M T) → Goes b m links 0 0 p q → Goes b m links 0 0 q r → Goes b m links 0 n r s → Goes b m links 0 n p s

@@ -1,5 +1,5 @@
 -- The single steps of a piece.
-use Rattle.std.proofs.Common.{◌≡◌, ◌⊎◌, inl, inr, ℕ, ◌&&◌, nat_lt, if◌then◌else◌, Bool, true, false, List, map, refl, sym, ap, ◌∙◌, subst, Option, Some, None, Result, Ok, Err, slice_get}
+use Rattle.std.proofs.Common.{◌≡◌, ◌⊎◌, inl, inr, ℕ, ◌+◌, ◌&&◌, nat_lt, if◌then◌else◌, Bool, true, false, List, map, refl, sym, ap, ◌∙◌, subst, Option, Some, None, Result, Ok, Err, slice_get}
 use Rattle.std.specs.Prelude.{IfNone, IfOk, IfSome, OnErr}
 use Rattle.rsx_sources.specs.Prelude.{Meaning, Next, Signal, front_of}
 use Rattle.rsx_sources.specs.declared.machine.Front.{Front}
@@ -13,11 +13,11 @@ use Rattle.rsx_rooted.specs.Feeding.{carried}
 use Rattle.rsx_rooted.specs.Tree.{offers}
 use Rattle.rsx_pipe.specs.Part.{Part}
 use Rattle.rsx_pipe.specs.Published.{reader_edge}
-use Rattle.rsx_link.specs.Ends.{SameUp, carried_up, received_signals, sent_signals}
+use Rattle.rsx_link.specs.Ends.{SameUp, carried_up, received_signals, sent_signals, up_steps}
 use Rattle.rsx_link.specs.declared.link.Link.{Link}
 use Rattle.rsx_link.specs.declared.up.Found.{Found}
 use Rattle.rsx_link.specs.declared.up.Up.{Up}
-use Rattle.rsx_region.specs.Moves.{HasLeft, HasPopped, HasPulled, HasStepped, IsAskedFor, IsLooked, IsStill, KeepsInlet, SameInlet}
+use Rattle.rsx_region.specs.Moves.{HasBrought, HasLeft, HasPopped, HasPulled, HasStepped, IsAskedFor, IsLooked, IsStill, KeepsInlet, SameInlet}
 use Rattle.rsx_region.specs.Serving.{HasLeftOne, HasPassedOn, HasStayed, IsPassedOn}
 use Rattle.rsx_region.specs.Steps.{Goes, HasTried, OneChanged, SameInlets, done, shown}
 use Rattle.rsx_region.specs.declared.piece.Incoming.{Incoming}
@@ -63,7 +63,7 @@ popped_left b p new l at was is (Ok x) c same left = λ e.
     record { is = is; put = c.put; tried = tried_one p new at was is c h.part (shown_same was is c.number c.hub h.received same.3 same.2); left = cannot_pop b p.part new.part was is c.hub h }
 popped_left b p new l at was is (Err e) c same left = tt
 
-tried_root : {M T : Type 0} (l : Link T) (p new : Piece M T) → SameInlets p new → SameUp l p.up new.up → new.part ≡ p.part → sent_signals new.up ≡ sent_signals p.up → HasTried p new
+pub tried_root : {M T : Type 0} (l : Link T) (p new : Piece M T) → SameInlets p new → SameUp l p.up new.up → new.part ≡ p.part → sent_signals new.up ≡ sent_signals p.up → HasTried p new
 tried_root l p new same up part sent = record { part = part; link = same.0; sent = sent; looks = up.1; ins = ap (map shown) same.1 }
 
 pub stepped_goes : {M T E : Type 0} (b : Machine M T) (m : Meaning T) (links : List (Link T)) (p new : Piece M T) (l : Link T) (r : Result Bool E) → p.part.root.state ≡ Live → SameInlets p new → SameUp l p.up new.up →
@@ -77,17 +77,20 @@ pub stepped_stayed : {M T E : Type 0} (b : Machine M T) (m : Meaning T) (p new :
 stepped_stayed b m p new l (Ok x) same up still = λ e. let h = still e in record { tried = tried_root l p new same up h.0 h.1; others = same; idle = h.2 }
 stepped_stayed b m p new l (Err e) same up still = tt
 
--- an item that was pulled through, or moves inside alone. A root edge over which an item goes is live, and was so before those moves
-pub pulled_goes : {M T : Type 0} (b : Machine M T) (m : Meaning T) (links : List (Link T)) (p new : Piece M T) (l : Link T) (n : ℕ) → SameInlets p new → SameUp l p.up new.up → HasPulled b m n p.part p.up new.part new.up →
-    ((p.part.root.state ≡ Live → ⊥) → (n ≡ 0) × (new.part ≡ p.part) × (sent_signals new.up ≡ sent_signals p.up)) → Goes b m links n 0 p new
-pulled_goes {M} {T} b m links p new l n same up (inl h) after =
-    let k = h.2 in
+-- An item that was pulled through. A root edge over which an item goes is live, and was so before the moves inside.
+pub brought_goes : {M T : Type 0} (b : Machine M T) (m : Meaning T) (links : List (Link T)) (p new : Piece M T) (inside n : ℕ) → SameInlets p new → up_steps new.up ≡ up_steps p.up → inside + 1 ≡ n → HasBrought b m inside p.part p.up new.part new.up → Goes b m links n 0 p new
+brought_goes {M} {T} b m links p new inside n same looks sum k =
     let mid : Piece M T = record { part = k.mid; link = p.link; up = p.up; inlets = p.inlets } in
     let on : k.mid.root.state ≡ Live = pass_live (edge_view k.mid.root) Item k.out.can in
     let live : p.part.root.state ≡ Live = ap (λ e. e.state) (sym (k.worked.inside (sym k.worked.queued))) ∙ on in
-    goes_then b m links h.0 0 1 0 n 0 p mid new h.1 refl
-    (goes_one b m links (Many h.0) h.0 0 p mid refl refl (record { live = live; worked = k.worked; sent = refl; looks = refl; others = (refl, refl) }))
-    (goes_one b m links Move 1 0 mid new refl refl (record { live = on; stepped = inl (record { signal = Next k.item; out = k.out; pushed = k.pushed }); looks = up.1; others = same }))
+    goes_then b m links inside 0 1 0 n 0 p mid new sum refl
+    (goes_one b m links (Many inside) inside 0 p mid refl refl (record { live = live; worked = k.worked; sent = refl; looks = refl; others = (refl, refl) }))
+    (goes_one b m links Move 1 0 mid new refl refl (record { live = on; stepped = inl (record { signal = Next k.item; out = k.out; pushed = k.pushed }); looks = looks; others = same }))
+
+-- such an item, or moves inside alone
+pub pulled_goes : {M T : Type 0} (b : Machine M T) (m : Meaning T) (links : List (Link T)) (p new : Piece M T) (l : Link T) (n : ℕ) → SameInlets p new → SameUp l p.up new.up → HasPulled b m n p.part p.up new.part new.up →
+    ((p.part.root.state ≡ Live → ⊥) → (n ≡ 0) × (new.part ≡ p.part) × (sent_signals new.up ≡ sent_signals p.up)) → Goes b m links n 0 p new
+pulled_goes b m links p new l n same up (inl h) after = brought_goes b m links p new h.0 n same up.1 h.1 h.2
 pulled_goes b m links p new l n same up (inr h) after = elim (live_or p.part.root.state) [
   | inl live ↦ goes_one b m links (Many n) n 0 p new refl refl (record { live = live; worked = h.0; sent = h.1; looks = up.1; others = same })
   | inr dead ↦ let a = after dead in goes_one b m links Try n 0 p new (sym a.0) refl (tried_root l p new same up a.1 a.2)

@@ -15,5 +15,6 @@ pub mod Regions
 pub mod Serving
 pub mod Spread
 pub mod Steps
+pub mod Taken
 pub mod Trees
 pub mod Whole

@@ -1,5 +1,5 @@
 -- What each call of a piece changes.
-use Rattle.std.specs.Prelude.{◌≡◌, ◌≢◌, ◌⊎◌, ℕ, zero, suc, ◌+◌, min, ◌<◌, ◌≤◌, Bool, true, false, ◌||◌, [], ◌∷◌, ◌++◌, map, Option, Some, None}
+use Rattle.std.specs.Prelude.{◌≡◌, ◌≢◌, ◌⊎◌, ℕ, zero, suc, ◌+◌, min, ◌<◌, ◌≤◌, Bool, true, false, ◌||◌, List, [], ◌∷◌, ◌++◌, length, map, Option, Some, None}
 use Rattle.rsx_demand.specs.declared.TheConstants.{UNBOUNDED}
 use Rattle.rsx_sources.specs.Prelude.{Meaning, Next, Signal}
 use Rattle.rsx_sources.specs.declared.machine.Machine.{Ghosts as Machine}
@@ -7,17 +7,20 @@ use Rattle.rsx_tree.specs.declared.edge.Edge.{Edge}
 use Rattle.rsx_tree.specs.declared.edge.EdgeState.TheVariants.{Live, Closed}
 use Rattle.rsx_tree.specs.declared.look.NodeMove.{NodeMove}
 use Rattle.rsx_tree.specs.Edges.{closed_view, is_live}
+use Rattle.rsx_tree.specs.Runs.{Leads}
 use Rattle.rsx_tree.specs.Tree.{IsKept, edges}
 use Rattle.rsx_pipe.specs.Feeding.{IsMadeInside, IsQuietInside, IsSentOut, inside_enabled, next_out}
 use Rattle.rsx_pipe.specs.Fetched.{IsWorked}
 use Rattle.rsx_pipe.specs.Part.{Part}
 use Rattle.rsx_pipe.specs.Published.{IsHanded, has_room_for, readers}
-use Rattle.rsx_link.specs.Ends.{HasSentNothing, IsDownOf, KeepsParts, Looks, SameDown, TakesNone, TakesOne, asked_total, cancels_of, carried_down, down_steps, free_slots, received_signals, sent_signals, up_steps}
+use Rattle.rsx_pipe.specs.Taking.{IsItemHanded}
+use Rattle.rsx_link.specs.Ends.{HasSentNothing, IsDownOf, KeepsParts, Looks, SameDown, TakesNone, TakesOne, asked_total, cancels_of, carried_down, carried_up, down_steps, free_slots, received_signals, sent_signals, up_steps}
 use Rattle.rsx_link.specs.declared.cancel.CancelSeat.{CancelSeat}
 use Rattle.rsx_link.specs.declared.down.Down.{Down}
 use Rattle.rsx_link.specs.declared.link.Link.{Link}
 use Rattle.rsx_link.specs.declared.up.Found.{Found}
 use Rattle.rsx_link.specs.declared.up.Up.{Up}
+use Rattle.rsx_region.specs.Taken.{IsItemTaken, IsLookedAt}
 use Rattle.rsx_region.specs.declared.inlet.Inlet.{Inlet}
 
 -- A look at the link that goes out. What was asked of the root rose to the total that was found, and on a flag the part was closed.
@@ -80,6 +83,14 @@ pub record HasBrought {M T : Type 0} (b : Machine M T) (m : Meaning T) (inside :
 abbrev pub HasPulled : {M T : Type 0} → Machine M T → Meaning T → ℕ → Part M → Up T → Part M → Up T → Type 0
 HasPulled b m n old up new up' = ((inside : ℕ) × (inside + 1 ≡ n) × HasBrought b m inside old up new up') ⊎ (IsWorked b m n old new × (sent_signals up' ≡ sent_signals up))
 
+-- ---- many items that are sent
+
+-- an item was sent into the link
+pub record IsItemSent {T : Type 0} (old : Up T) (x : T) (new : Up T) : Type 0 where
+  pub pushed : sent_signals new ≡ sent_signals old ++ Next x ∷ []
+  pub looks : up_steps new ≡ up_steps old
+  pub carried : carried_up new ≡ carried_up old
+
 -- ---- a link that comes in
 
 -- the seat that cancels, and all but the receiving end, stay
@@ -99,6 +110,17 @@ pub record HasLeft {M T : Type 0} (b : Machine M T) (old : Part M) (i : Inlet T)
   pub part : new ≡ old
   pub received : received_signals i'.down ≡ received_signals i.down
   pub why : (readers b i.hub old ≢ 1) ⊎ ((has_room_for b i.hub old ≡ false) ⊎ TakesNone i.down i'.down)
+
+-- So many items were taken from the link one after the other, and all of them handed to the node that reads it. With none, nothing changed
+-- but what the end knows of its queue.
+pub record ArePopped {M T : Type 0} (b : Machine M T) (n : ℕ) (old : Part M) (i : Inlet T) (new : Part M) (i' : Inlet T) : Type 0 where
+  pub items : List T
+  pub count : length items ≡ n
+  pub reader : 0 < n → readers b i.hub old ≡ 1
+  pub last : Down T
+  pub taken : Leads IsItemTaken i.down items last
+  pub handed : Leads (IsItemHanded b i.hub) old items new
+  pub rest : IsLookedAt last i'.down
 
 -- What was asked of the reader's edge is asked of the link too; where that edge isn't live, the link is cancelled, and where there
 -- is none, nothing is done.

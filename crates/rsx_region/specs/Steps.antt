@@ -47,6 +47,11 @@ abbrev pub done : {E : Type 0} → Result Bool E → ℕ
 done (Ok b) = cond b 1 0
 done (Err e) = 0
 
+-- so many as it answers, and none where it failed
+abbrev pub count_of : {E : Type 0} → Result ℕ E → ℕ
+count_of (Ok n) = n
+count_of (Err e) = 0
+
 -- what other threads see of a link that comes in, and what the piece took from it
 pub record Shown (T : Type 0) : Type 0 where
   pub link : ℕ

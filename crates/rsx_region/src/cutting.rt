@@ -12,7 +12,7 @@ ghost use Rattle.rsx_types.specs.Meaning.{Meaning};
 ghost use Rattle.rsx_types.specs.Stream.{Stream};
 ghost use Rattle.rsx_types.specs.declared.signal.Signal.TheVariants.{Next};
 
-use crate::halves::{Below, LINK_PLACES};
+use crate::halves::{Below, LINK_PLACES, READER_PLACES};
 use crate::inlet::Inlet;
 use crate::piece::{Incoming, Piece};
 use rsx_hub::Member;
@@ -163,7 +163,7 @@ fn make_link<N: CrossingNodes<Item = T> + Drop, T: Drop>(
 ) -> Result<Made<N, T>, NoMemory>
     ensures { IfOk result (λ k. IsMadeFor N.Machine N.CrossingNodes.own edge hub k.reader k.link k.up k.inlet) }
 {
-    let member = Member::new(alloc, 1)?;
+    let member = Member::new(alloc, READER_PLACES as u64)?;
     let reader = N::reader(alloc, hub, member, edge.demand.sent)?;
     let (link, up, down, closer) = Link::open(alloc, LINK_PLACES, edge.demand)?;
     let inlet = Inlet::new(alloc, hub, down, closer)?;

@@ -1,4 +1,4 @@
-//! Items that go through a piece one after the other.
+//! Items that go through a piece, many at once where they can.
 
 ghost use Rattle.std.specs.Prelude.{◌≡◌, ◌+◌, ◌≤◌, ℕ, List};
 ghost use Rattle.rsx_types.specs.Stream.{Stream};
@@ -10,21 +10,23 @@ use crate::piece::Piece;
 use crate::serving::{Answer, PieceServed, outcome};
 use rsx_link::Link;
 use rsx_pipe::Nodes;
+use rsx_rooted::{Batch, Batches};
 use rsx_types::Ops;
 use std::alloc::Global;
 
-impl<N: Nodes<Item = T>, T: Drop> Piece<N, T> {
-    /// Lets items go through the piece, one after the other, until nothing goes on. No link that goes out is looked at, and no request
-    /// passed down, so nothing is said of what is left to do.
+impl<N: Nodes<Item = T> + Batches, T: Drop> Piece<N, T> {
+    /// Lets items go through the piece, until nothing goes on. No link that goes out is looked at, and no request passed down, so nothing
+    /// is said of what is left to do.
     ///
-    /// An item is pulled through the whole part in one go, and sent into the link that goes out. Then a signal is taken from each link that
-    /// comes in, and so on.
+    /// Items are pulled through the whole part, each in one go or many at once, and sent into the link that goes out, as long as some come.
+    /// Then signals are taken from each link that comes in, and so on.
     pub(crate) fn flow<O: Ops<Item = T>>(
         &mut self,
         alloc: Global,
         ops: &O,
         links: &[Link<T>],
         budget: u32,
+        batch: &mut Batch<T>,
     ) -> PieceServed
         requires { IsPieceOf links.now self.old }
         ensures ends { IsPieceOf links.now self.new }
@@ -33,10 +35,12 @@ impl<N: Nodes<Item = T>, T: Drop> Piece<N, T> {
         ensures budget { result.answer ≡ Answer.Budget → result.moves + result.pops ≡ budget }
         ensures stands { (hubs : List (Stream T)) (opening : PieceSpec N T) → StandsSince N.Machine (O.meaning ops.now) hubs opening self.old → StandsSince N.Machine (O.meaning ops.now) hubs opening self.new }
     {
+        let mut singles = 0;
         let mut moves = 0;
         let mut pops = 0;
         while moves + pops < budget {
-            let round = self.pass(alloc, ops, links, budget - moves - pops);
+            let left = budget - moves - pops;
+            let round = self.pass(alloc, ops, links, left, batch, &mut singles);
             moves += round.moves;
             pops += round.pops;
             match round.answer {
@@ -52,13 +56,15 @@ impl<N: Nodes<Item = T>, T: Drop> Piece<N, T> {
         outcome(Answer::Budget, moves, pops)
     }
 
-    /// An item into the link that goes out, where one comes, and then a signal from each link that comes in.
+    /// Items into the link that goes out, as long as some come, and then signals from each link that comes in.
     fn pass<O: Ops<Item = T>>(
         &mut self,
         alloc: Global,
         ops: &O,
         links: &[Link<T>],
         budget: u32,
+        batch: &mut Batch<T>,
+        singles: &mut u32,
     ) -> PieceServed
         requires { IsPieceOf links.now self.old }
         ensures ends { IsPieceOf links.now self.new }
@@ -67,7 +73,7 @@ impl<N: Nodes<Item = T>, T: Drop> Piece<N, T> {
         ensures budget { result.answer ≡ Answer.Budget → result.moves + result.pops ≡ budget }
         ensures stands { (hubs : List (Stream T)) (opening : PieceSpec N T) → StandsSince N.Machine (O.meaning ops.now) hubs opening self.old → StandsSince N.Machine (O.meaning ops.now) hubs opening self.new }
     {
-        let moves = self.pull(alloc, ops, links, budget);
+        let moves = self.pull_all(alloc, ops, links, budget, batch, singles);
         let popped = self.pop_each(links, budget - moves);
         outcome(popped.answer, moves, popped.pops)
     }

@@ -25,8 +25,11 @@ use rsx_pipe::{CrossingNodes, CutOff, Edge, EdgeState, Part};
 use rsx_queued::{CAPACITY, ItemQueue};
 use rsx_types::{Cause, Ending, Signal};
 
-/// How many signals a link between two pieces holds at most. With the one that its reader holds, the queue of an edge takes them back.
-pub const LINK_PLACES: usize = CAPACITY - 1;
+/// How many items the node that reads a link holds at most, so that it can be handed so many at once.
+pub const READER_PLACES: usize = 16;
+
+/// How many signals a link between two pieces holds at most. With those that its reader holds, the queue of an edge takes them back.
+pub const LINK_PLACES: usize = CAPACITY - READER_PLACES;
 
 /// What was cut off a piece at an edge: the piece below it, and the link that it sends into.
 #[derive(Drop)]

@@ -1,13 +1,17 @@
 //! What a piece has of a link that comes in.
 
-ghost use Rattle.std.specs.Prelude.{◌≡◌, ◌<◌, ◌∷◌, ◌++◌, [], List, true};
-ghost use Rattle.rsx_link.specs.Ends.{cancels_of, received_signals};
+ghost use Rattle.std.specs.Prelude.{◌≡◌, ◌+◌, ◌<◌, ◌≤◌, ◌∷◌, ◌++◌, [], List, true};
+ghost use Rattle.std.specs.Vec.{vec_len, vec_capacity};
+ghost use Rattle.rsx_link.specs.Ends.{HasLooked, IsDownOf, cancels_of, carried_down, down_steps, received_signals};
 ghost use Rattle.rsx_region.specs.Endings.{first_ending};
+ghost use Rattle.rsx_region.specs.Taken.{AreTaken, OffersItem};
 ghost use Rattle.rsx_types.specs.declared.signal.Signal.{Signal as SignalSpec};
 
+use crate::halves::READER_PLACES;
 use crate::readers::waits_for;
 use rsx_link::{CancelSeat, Down, Link};
 use rsx_pipe::{EdgeState, Nodes, Part};
+use rsx_rooted::Batches;
 use rsx_types::{Ending, NoMemory, Signal};
 use std::alloc::Global;
 
@@ -24,9 +28,12 @@ pub struct Inlet<T> {
     pub ended: Option<Ending>,
     // The one signal that is handed on stands here in between.
     hand: Vec<Signal<T>>,
+    // The items that are handed on at once stand here in between, the first of them last.
+    items: Vec<T>,
     // Whether the link was cancelled by this seat here.
     cancelled: bool,
     pub ghost empty: { hand.items ≡ [] },
+    pub ghost none: { items.items ≡ [] },
     pub ghost told: { cancelled ≡ true → 0 < cancels_of closer },
     pub ghost over: { ended ≡ first_ending (received_signals down) },
 }
@@ -57,21 +64,62 @@ fn count_ending<T>(ended: &mut Option<Ending>, signal: &Signal<T>)
     }
 }
 
+/// Whether the oldest signal of the link is an item. It stays there.
+fn offers_item<T>(down: &mut Down<T>, link: &Link<T>) -> bool
+    requires { IsDownOf link.now down.old }
+    ensures same { HasLooked link.now down.old down.new }
+    ensures item { result ≡ true → OffersItem down.new }
+{
+    if down.is_empty(link) {
+        return false;
+    }
+    match down.front() {
+        Some(Signal::Next(_)) => true,
+        Some(Signal::Complete) => false,
+        Some(Signal::Error(_)) => false,
+        None => false,
+    }
+}
+
+/// Takes items from the link, at most `most`, as long as some can be taken, and puts them at the end of the list, the first of them last.
+/// It has room for them. Answers how many. It calls itself so many times deep.
+fn take_items<T: Drop>(down: &mut Down<T>, link: &Link<T>, most: u64, items: &mut Vec<T>) -> u64
+    requires end { IsDownOf link.now down.old }
+    requires room { vec_len items.old + most ≤ vec_capacity items.old }
+    ensures end { IsDownOf link.now down.new × (down_steps down.new ≡ down_steps down.old) × (carried_down down.new ≡ carried_down down.old) }
+    ensures taken { AreTaken result down.old items.old.items items.new.items down.new }
+    ensures most { result ≤ most }
+    ensures room { vec_capacity items.new ≡ vec_capacity items.old }
+{
+    if most == 0 || !offers_item(down, link) {
+        return 0;
+    }
+    match down.take(link) {
+        Some(Signal::Next(item)) => {
+            let behind = take_items(down, link, most - 1, items);
+            items.push_reserved(item);
+            behind + 1
+        }
+        Some(Signal::Complete) => 0,
+        Some(Signal::Error(_)) => 0,
+        None => 0,
+    }
+}
+
 impl<T: Drop> Inlet<T> {
     ghost use Rattle.std.specs.Prelude.{List, false, OnErr, IfOk};
     ghost use Rattle.rsx_types.specs.Meaning.{Meaning};
     ghost use Rattle.rsx_types.specs.Stream.{Stream};
     ghost use Rattle.rsx_tree.specs.declared.node.Node.{Node};
     ghost use Rattle.rsx_pipe.specs.Published.{reader_edge};
-    ghost use Rattle.rsx_link.specs.Ends.{IsDownOf};
     ghost use Rattle.rsx_link.specs.declared.up.Up.{Up as UpSpec};
     ghost use Rattle.rsx_region.specs.Inlet.{HasCome, InletStands, IsInletOf, with_come};
-    ghost use Rattle.rsx_region.specs.Moves.{HasLeft, HasPopped, IsAskedFor, KeepsInlet, SameInlet};
+    ghost use Rattle.rsx_region.specs.Moves.{ArePopped, HasLeft, HasPopped, IsAskedFor, KeepsInlet, SameInlet};
     ghost use Rattle.rsx_region.specs.Piece.{IsInStep, PieceStands};
     ghost use Rattle.rsx_region.specs.declared.inlet.Inlet.{Inlet as InletSpec};
 
     /// Of the link with these ends, which a node of the piece reads under the number `hub`. Nothing was taken from the link yet. Room for
-    /// the signal that is handed on is made here.
+    /// what is handed on is made here.
     ///
     /// # Errors
     /// [`NoMemory`] where there was none for that.
@@ -85,12 +133,14 @@ impl<T: Drop> Inlet<T> {
         ensures { IfOk result (λ i. (i.hub ≡ hub) × (i.down ≡ down) × (i.closer ≡ closer)) }
     {
         let hand = Vec::with_capacity(alloc, 1)?;
+        let items = Vec::with_capacity(alloc, READER_PLACES)?;
         Ok(Inlet {
             hub,
             down,
             closer,
             ended: None,
             hand,
+            items,
             cancelled: false,
         })
     }
@@ -145,6 +195,32 @@ impl<T: Drop> Inlet<T> {
         self.hand.push_reserved(signal);
         part.hand(hub, &mut self.hand);
         Ok(true)
+    }
+
+    /// Takes items from the link, at most `most`, as long as some can be taken and the node that reads the link has room for them, and hands
+    /// them to it. Answers how many. An ending stays in the link, and so do items where no memory is left.
+    pub(crate) fn pop_many<N: Nodes<Item = T> + Batches>(
+        &mut self,
+        part: &mut Part<N>,
+        link: &Link<T>,
+        most: u32,
+    ) -> u32
+        requires { IsDownOf link.now self.old.down }
+        ensures end { SameInlet link.now self.old self.new }
+        ensures popped { ArePopped N.Machine result part.old self.old part.new self.new }
+        ensures most { result ≤ most }
+    {
+        let number = u64::from(self.hub);
+        if !waits_for(part, number) {
+            return 0;
+        }
+        let spaces = part.spaces_for(number, u64::from(most));
+        if self.items.reserve(spaces as usize).is_err() {
+            return 0;
+        }
+        let count = take_items(&mut self.down, link, spaces, &mut self.items);
+        part.hand_many(number, &mut self.items, count);
+        count as u32
     }
 
     /// Asks the link for as much as was asked over the edge of the node that reads it (rule 3.8). Where that edge isn't live, it

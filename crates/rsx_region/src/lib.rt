@@ -9,11 +9,12 @@
 //! A call of [`outgoing`], [`part_steps`] and [`inlet`] is handed a part and the ends of its links one by one, and is one step of a
 //! piece: a look at the link that goes out, a move inside the part, a signal sent into the link, a signal taken from a link that
 //! comes in and handed on, and a request passed on down such a link; or it is many moves, as where an item is pulled through the part.
+//! Where several items can be taken from a link or go through the part at once, a piece does what so many of these calls would do.
 //! A [`Piece`] has its part with those ends, so that [`Piece::serve`] can do all that there is to do for it, within a budget, by such
 //! steps.
 //!
 //! - [`cutting`]: [`Piece::cut`], by which a piece is cut in two.
-//! - [`flowing`]: items that go through a piece one after the other.
+//! - [`flowing`]: items that go through a piece, many at once where they can.
 //! - [`halves`]: [`Below`], what was cut off a piece, and [`Piece::join`], by which it is joined to it again.
 //! - [`inlet`]: [`Inlet`], what a piece has of a link that comes in, with [`Inlet::pop`] and [`Inlet::ask`].
 //! - [`law`]: [`law::opens`], what a piece is at its opening; [`law::joins`], [`law::joins_again`] and [`law::joins_ended`], what two
@@ -32,8 +33,8 @@
 //! - [`trees`]: [`CutTrees`], trees that are cut at one edge after the other, and joined again.
 //!
 //! The definitions stand in `specs/`. Of a part and the ends of its links one by one: `Piece` (what a piece stands for), `Moves` (what
-//! each call changes), `Inlet`, `Endings` and `Readers` (what it has of a link that comes in, and who reads that), `Open` (what stands
-//! over an edge), and `Joining`, `Joined` and `Whole` (what two are that are joined). Of a [`Piece`]: `Pieces` (the ends of a piece,
+//! each call changes), `Inlet`, `Taken`, `Endings` and `Readers` (what it has of a link that comes in, and who reads that), `Open` (what
+//! stands over an edge), and `Joining`, `Joined` and `Whole` (what two are that are joined). Of a [`Piece`]: `Pieces` (the ends of a piece,
 //! and what it stands for), `Steps` (what each step changes), `Serving` (when a piece is at rest), `Cuts` (how a piece is cut),
 //! `Halves` (both halves), `Joins` (when they can be joined, and to what), `Regions` (the same of all pieces of a region), `Trees`
 //! (what trees were before they were cut at many edges) and `Spread` (pieces that were put into regions).
@@ -43,6 +44,7 @@ pub mod flowing;
 pub mod halves;
 pub mod inlet;
 pub mod law;
+mod many;
 pub mod opening;
 pub mod outgoing;
 pub mod part_steps;
@@ -56,7 +58,7 @@ mod touched;
 pub mod trees;
 
 pub use cutting::NotCut;
-pub use halves::{Below, LINK_PLACES};
+pub use halves::{Below, LINK_PLACES, READER_PLACES};
 pub use inlet::Inlet;
 pub use opening::Opening;
 pub use piece::{Incoming, Piece};

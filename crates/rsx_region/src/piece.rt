@@ -43,7 +43,7 @@ pub struct Piece<N, T> {
 }
 
 /// The link with this number.
-fn link_at<T>(links: &[Link<T>], number: u32) -> &Link<T>
+pub(crate) fn link_at<T>(links: &[Link<T>], number: u32) -> &Link<T>
     requires { IsAt links.now number (λ l. ⊤) }
     ensures { slice_get links.now number ≡ Some result.now }
 {

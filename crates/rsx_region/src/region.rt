@@ -10,6 +10,7 @@ use crate::serving::{Answer, PieceServed, outcome};
 use crate::touched::PieceEnds;
 use rsx_link::Link;
 use rsx_pipe::Nodes;
+use rsx_rooted::{Batch, Batches};
 use rsx_types::Ops;
 use std::alloc::Global;
 
@@ -39,9 +40,11 @@ pub struct Region<N, T> {
     pub pieces: Vec<Piece<N, T>>,
     // What is known of the ends of each piece, once the region was spread into.
     pub(crate) ends: Vec<PieceEnds>,
+    // Room for items on their way, which is kept from one call to the next.
+    batch: Batch<T>,
 }
 
-impl<N, T> Region<N, T> {
+impl<N, T: Drop> Region<N, T> {
     /// A region with this number and these pieces. Which regions are at the other ends of their links it knows once [`spread`](crate::spread)
     /// has put pieces into it; before that no call says that a link was touched.
     pub fn new(alloc: Global, number: u8, pieces: Vec<Piece<N, T>>) -> Region<N, T>
@@ -51,11 +54,12 @@ impl<N, T> Region<N, T> {
             number,
             pieces,
             ends: Vec::new(alloc),
+            batch: Batch::new(alloc),
         }
     }
 }
 
-impl<N: Nodes<Item = T>, T: Drop> Region<N, T> {
+impl<N: Nodes<Item = T> + Batches, T: Drop> Region<N, T> {
     /// Serves the pieces one after the other by [`Piece::serve`], and again, until none of them makes a move or takes a signal, or
     /// the budget is used up, which they share. A single piece is served once.
     ///
@@ -186,6 +190,6 @@ impl<N: Nodes<Item = T>, T: Drop> Region<N, T> {
         ensures count { length self.new.pieces.items ≡ length self.old.pieces.items }
         ensures stands { (hubs : List (Stream T)) (opening : List (PieceSpec N T)) → RegionStands N.Machine (O.meaning ops.now) hubs opening self.old.pieces.items → RegionStands N.Machine (O.meaning ops.now) hubs opening self.new.pieces.items }
     {
-        self.pieces[at].serve(alloc, ops, links, budget)
+        self.pieces[at].serve_by(alloc, ops, links, budget, &mut self.batch)
     }
 }

@@ -14,6 +14,7 @@ use crate::serving::{Answer, PieceServed};
 use rsx_link::Link;
 use rsx_pipe::CrossingNodes;
 use rsx_queued::ItemQueue;
+use rsx_rooted::Batches;
 use rsx_types::Ops;
 use std::alloc::Global;
 
@@ -70,27 +71,6 @@ impl<N: CrossingNodes<Item = T> + Drop, T: Drop> CutTrees<N, T> {
         ensures no { result ≡ false → self.now.edges.items ≡ [] → AreWhole self.now.pieces.items → ⊥ }
     {
         self.edges.is_empty() && are_whole(&self.pieces)
-    }
-
-    /// Serves the piece at this place by [`Piece::serve`]. What the pieces stand for stays.
-    pub fn serve<O: Ops<Item = T>>(
-        &mut self,
-        at: usize,
-        alloc: Global,
-        ops: &O,
-        budget: u32,
-    ) -> PieceServed
-        requires ends { ArePiecesOf self.old.links.items self.old.pieces.items }
-        requires there { at < length self.old.pieces.items }
-        ensures ends { ArePiecesOf self.new.links.items self.new.pieces.items }
-        ensures run { RegionGoes N.Machine (O.meaning ops.now) self.new.links.items result.moves result.pops self.old.pieces.items self.new.pieces.items }
-        ensures most { result.moves + result.pops ≤ budget }
-        ensures budget { result.answer ≡ Answer.Budget → result.moves + result.pops ≡ budget }
-        ensures idle { result.answer ≡ Answer.Idle → IsServedAt N.Machine (O.meaning ops.now) at self.old.pieces.items self.new.pieces.items }
-        ensures since { (first hubs : List (Stream T)) (whole opening : Stage N T) → HaveGoneSince N.Machine N.CrossingNodes.own (O.meaning ops.now) first hubs whole opening self.old → HaveGoneSince N.Machine N.CrossingNodes.own (O.meaning ops.now) first hubs whole opening self.new }
-        ensures same { (self.new.links ≡ self.old.links) × (self.new.edges ≡ self.old.edges) }
-    {
-        self.pieces[at].serve(alloc, ops, &self.links, budget)
     }
 
     /// Cuts the piece at the place `above` at its edge `at` by [`Piece::cut`], with a link that is read under the number `hub`. Where the
@@ -208,6 +188,31 @@ impl<N: CrossingNodes<Item = T> + Drop, T: Drop> CutTrees<N, T> {
             self.join_last()?;
         }
         Ok(())
+    }
+}
+
+impl<N: CrossingNodes<Item = T> + Batches + Drop, T: Drop> CutTrees<N, T> {
+    ghost use Rattle.rsx_region.specs.Trees.{HaveGoneSince, Stage};
+
+    /// Serves the piece at this place by [`Piece::serve`]. What the pieces stand for stays.
+    pub fn serve<O: Ops<Item = T>>(
+        &mut self,
+        at: usize,
+        alloc: Global,
+        ops: &O,
+        budget: u32,
+    ) -> PieceServed
+        requires ends { ArePiecesOf self.old.links.items self.old.pieces.items }
+        requires there { at < length self.old.pieces.items }
+        ensures ends { ArePiecesOf self.new.links.items self.new.pieces.items }
+        ensures run { RegionGoes N.Machine (O.meaning ops.now) self.new.links.items result.moves result.pops self.old.pieces.items self.new.pieces.items }
+        ensures most { result.moves + result.pops ≤ budget }
+        ensures budget { result.answer ≡ Answer.Budget → result.moves + result.pops ≡ budget }
+        ensures idle { result.answer ≡ Answer.Idle → IsServedAt N.Machine (O.meaning ops.now) at self.old.pieces.items self.new.pieces.items }
+        ensures since { (first hubs : List (Stream T)) (whole opening : Stage N T) → HaveGoneSince N.Machine N.CrossingNodes.own (O.meaning ops.now) first hubs whole opening self.old → HaveGoneSince N.Machine N.CrossingNodes.own (O.meaning ops.now) first hubs whole opening self.new }
+        ensures same { (self.new.links ≡ self.old.links) × (self.new.edges ≡ self.old.edges) }
+    {
+        self.pieces[at].serve(alloc, ops, &self.links, budget)
     }
 }
 

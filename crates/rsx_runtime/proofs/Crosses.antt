@@ -2,7 +2,7 @@
 use denote.RattleType.{RattleType}
 use denote.Struct.Struct.{Struct}
 use denote.Struct.Declared.{shape}
-use denote.Param.Send.{IsSend, IsSync, recorded_sync, sendable, struct_sync}
+use denote.Param.Send.{IsSend, IsSync, recorded_send, recorded_sync, sendable, struct_send, struct_sync}
 use Rattle.std.proofs.Crossing.{crosses}
 use Rattle.std.specs.declared.clone.Clone.{Ghosts as Clone}
 use Rattle.rsx_types.specs.declared.ops.Ops.{Ghosts as Ops}
@@ -14,10 +14,28 @@ use Rattle.rsx_link.proofs.link.Link.TheSendSync as Link
 use Rattle.rsx_link.proofs.up.Up.TheSendSync as Up
 use Rattle.rsx_region.proofs.inlet.Inlet.TheSendSync as Inlet
 use Rattle.rsx_region.specs.contracts.region.Region as Region
+use Rattle.rsx_rooted.specs.contracts.batch.Batch as Batch
+use Rattle.rsx_plain.proofs.chain.ChainState.TheLaws.TheKnot as Chain
+use Rattle.rsx_plain.proofs.state.PlainState.TheSendSync as State
 use Rattle.rsx_runtime.specs.contracts.live.Live as Live
 
+-- items on their way through a piece
+batch : (T : RattleType) → IsSend T → IsSend (Batch.the_field T).row
+batch T t =
+    struct_send (shape (Batch.the_type T))
+    (search (sendable, crosses) depth 60 fits 100000, (search (sendable, crosses) depth 60 fits 100000, (search (sendable, crosses, Chain.send-ChainState, State.the_field_send) depth 60 fits 100000, tt)))
+
 pub region : (N T : RattleType) → IsSend N → IsSend T → IsSend (Region.the_row N T)
-region N T n t = search (sendable, crosses, Inlet.the_field_send, Up.the_field_send, Inputs.crosses) depth 60 fits 100000
+region N T n t =
+    let R = Region.the_type N T in
+    recorded_send (Struct (shape R)) R.D R.to R.to_one
+    (struct_send (shape R) (
+      search sendable,
+      (
+        search (sendable, crosses, Inlet.the_field_send, Up.the_field_send, Inputs.crosses) depth 60 fits 100000,
+        (search (sendable, crosses) depth 60 fits 100000, (batch T t, tt)),
+      ),
+    ))
 
 pub live : (N T O : RattleType) (nodes : Nodes N.Denot T.Denot) (machine : Machine N.Denot T.Denot) (ops : Ops O.Denot T.Denot) (clone : Clone O.Denot) →
     IsSend N → IsSend T → IsSync O → IsSync (Live.the_row N T O nodes machine ops clone)

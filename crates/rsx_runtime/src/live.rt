@@ -13,6 +13,7 @@ use rsx_gate::{Gate, Seat};
 use rsx_link::Link;
 use rsx_pipe::Nodes;
 use rsx_region::{Answer, Opening, Region, Served};
+use rsx_rooted::Batches;
 use rsx_types::Ops;
 use std::alloc::Global;
 use std::snapshot::Snapshot;
@@ -115,7 +116,9 @@ impl<N: Nodes<Item = T>, T: Drop, O: Ops<Item = T>> Live<N, T, O> {
     {
         &self.links[number as usize]
     }
+}
 
+impl<N: Nodes<Item = T> + Batches, T: Drop, O: Ops<Item = T>> Live<N, T, O> {
     /// Works on the region at this place, by a seat of its gate: where no other seat has the region, it is served by
     /// [`Region::serve`] until nothing is left to do and no one poked it meanwhile, and at most [`ROUNDS`] times. The seat has no
     /// pass before or after, and keeps its parts; it made just the steps that the answer tells of. No call waits.
@@ -146,7 +149,7 @@ impl<N: Nodes<Item = T>, T: Drop, O: Ops<Item = T>> Live<N, T, O> {
 }
 
 /// A poke of the region behind this gate.
-fn visit<N: Nodes<Item = T>, T: Drop, O: Ops<Item = T>>(
+fn visit<N: Nodes<Item = T> + Batches, T: Drop, O: Ops<Item = T>>(
     alloc: Global,
     ops: &O,
     gate: &RegionGate<N, T, O>,
@@ -203,7 +206,7 @@ fn visit<N: Nodes<Item = T>, T: Drop, O: Ops<Item = T>>(
     }
 }
 
-impl<N: Nodes<Item = T>, T: Drop, O: Ops<Item = T>> Live<N, T, O> {
+impl<N: Nodes<Item = T> + Batches, T: Drop, O: Ops<Item = T>> Live<N, T, O> {
     /// Serves the region at this place by a seat that has it.
     pub(crate) fn serve_seat(
         &self,
@@ -250,7 +253,7 @@ pub(crate) fn leave_held<N: Nodes<Item = T>, T: Drop, O: Ops<Item = T>>(
 }
 
 /// Serves the region of a seat that has it. It fits before and after, and the seat makes no step.
-fn serve_held<N: Nodes<Item = T>, T: Drop, O: Ops<Item = T>>(
+fn serve_held<N: Nodes<Item = T> + Batches, T: Drop, O: Ops<Item = T>>(
     alloc: Global,
     ops: &O,
     gate: &RegionGate<N, T, O>,

@@ -10,6 +10,7 @@ use crate::live::{Live, RegionSeat, leave_held, mark_held};
 use rsx_gate::{More, Noted};
 use rsx_pipe::Nodes;
 use rsx_region::{Answer, Served};
+use rsx_rooted::Batches;
 use rsx_types::Ops;
 use std::alloc::Global;
 
@@ -66,7 +67,7 @@ impl<N: Nodes<Item = T>, T: Drop, O: Ops<Item = T>> Live<N, T, O> {
     }
 }
 
-impl<'a, N: Nodes<Item = T>, T: Drop, O: Ops<Item = T>> RegionPass<'a, N, T, O> {
+impl<'a, N: Nodes<Item = T> + Batches, T: Drop, O: Ops<Item = T>> RegionPass<'a, N, T, O> {
     /// Serves the region as [`Region::serve`](rsx_region::Region::serve) does: what is left to do, until the budget is used up. It
     /// makes no step of the gate.
     ///
@@ -88,7 +89,9 @@ impl<'a, N: Nodes<Item = T>, T: Drop, O: Ops<Item = T>> RegionPass<'a, N, T, O> 
         };
         served
     }
+}
 
+impl<'a, N: Nodes<Item = T>, T: Drop, O: Ops<Item = T>> RegionPass<'a, N, T, O> {
     /// Counts the notes so far as seen. Serve the region after this call: what was put before an enter that came earlier is there.
     ///
     /// The region stays as it is. A note that comes later is found by the next [`RegionPass::leave`].

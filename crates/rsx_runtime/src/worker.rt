@@ -8,6 +8,7 @@ use crate::BUDGET;
 use crate::live::{Live, PokeAnswer, RegionSeat};
 use crate::rest::{Rest, Rested};
 use rsx_pipe::Nodes;
+use rsx_rooted::Batches;
 use rsx_types::Ops;
 use std::alloc::Global;
 use std::sync::Wait;
@@ -18,7 +19,7 @@ use std::sync::Wait;
 /// between two pieces of its own region was touched, and so pokes that once more before it rests.
 ///
 /// It may never return. Where it does, the seat has no pass, as before, and keeps its parts.
-pub fn work<R: Wait, N: Nodes<Item = T>, T: Drop, O: Ops<Item = T>, W: Rest>(
+pub fn work<R: Wait, N: Nodes<Item = T> + Batches, T: Drop, O: Ops<Item = T>, W: Rest>(
     rt: &R,
     alloc: Global,
     live: &Live<N, T, O>,

@@ -11,6 +11,7 @@ use rsx_gate::More;
 use rsx_pipe::Nodes;
 use rsx_processor::ProcessorNode;
 use rsx_region::{Answer, Region};
+use rsx_rooted::Batches;
 use rsx_runtime::{Live, PokeAnswer, Poked, RegionLeft, RegionSeat};
 use rsx_types::Ops;
 use std::alloc::Global;
@@ -81,12 +82,12 @@ fn two_regions(alloc: Global) -> Option<(DemoLive, DemoSeat, DemoSeat)>
 }
 
 // Pokes region 1 on a thread of its own.
-fn poke_beside<R: Threads, N: Nodes<Item = T> + Send, T: Send + Drop, O: Ops<Item = T> + Sync>(
-    rt: &R,
-    alloc: Global,
-    live: &Live<N, T, O>,
-    seat: RegionSeat<N, T, O>,
-) -> Poked
+fn poke_beside<
+    R: Threads,
+    N: Nodes<Item = T> + Batches + Send,
+    T: Send + Drop,
+    O: Ops<Item = T> + Sync,
+>(rt: &R, alloc: Global, live: &Live<N, T, O>, seat: RegionSeat<N, T, O>) -> Poked
     requires { IsAmong live.now.gates.items 1 (λ g. IsSeatOf g seat) }
 {
     let (poked, ()) = thread::join(
@@ -100,7 +101,7 @@ fn poke_beside<R: Threads, N: Nodes<Item = T> + Send, T: Send + Drop, O: Ops<Ite
 }
 
 // Pokes region 1 by this seat.
-fn poke_once<N: Nodes<Item = T>, T: Drop, O: Ops<Item = T>>(
+fn poke_once<N: Nodes<Item = T> + Batches, T: Drop, O: Ops<Item = T>>(
     alloc: Global,
     live: &Live<N, T, O>,
     mut seat: RegionSeat<N, T, O>,

@@ -1,4 +1,4 @@
-use Rattle.std.proofs.Common.{◌≡◌, ℕ, length, List}
+use Rattle.std.proofs.Common.{◌≡◌, length, List}
 use Rattle.rsx_types.specs.Meaning.{Meaning}
 use Rattle.rsx_pipe.specs.Published.{reader_edge}
 use Rattle.rsx_types.specs.Stream.{Stream}

@@ -1,4 +1,4 @@
-use Rattle.std.proofs.Common.{◌≡◌, ◌+◌, ◌-◌, ◌≤◌, ℕ, List}
+use Rattle.std.proofs.Common.{◌≡◌, ◌+◌, ◌-◌, ◌≤◌, List}
 use Rattle.rsx_types.specs.Stream.{Stream}
 use Rattle.rsx_region.specs.Pieces.{IsPieceOf, StandsSince}
 use Rattle.rsx_region.specs.Steps.{Goes}

@@ -1,4 +1,4 @@
-use Rattle.std.proofs.Common.{◌≡◌, ◌+◌, ◌-◌, ◌≤◌, ℕ, List}
+use Rattle.std.proofs.Common.{◌≡◌, ◌+◌, ◌-◌, ◌≤◌, List}
 use Rattle.rsx_types.specs.Stream.{Stream}
 use Rattle.rsx_region.specs.Regions.{ArePiecesOf, RegionGoes, RegionStands}
 use Rattle.rsx_region.specs.declared.piece.Piece.{Piece}

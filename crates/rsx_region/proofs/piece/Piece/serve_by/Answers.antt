@@ -1,7 +1,7 @@
 use Rattle.std.proofs.Common.{refl, sym, arith}
 use Rattle.rsx_region.proofs.Runs.{goes_then}
 use Rattle.rsx_region.proofs.Seen.{rested, seen_after}
-use Rattle.rsx_region.proofs.piece.Piece.serve.Goals as goal
+use Rattle.rsx_region.proofs.piece.Piece.serve_by.Goals as goal
 
 pub returns-in-NoMemory-clause-run : goal.returns-in-NoMemory-clause-run
 returns-in-NoMemory-clause-run g c = goes_then g.N.Machine (g.O.Ops.meaning c.args.ops.now) c.args.links.now c.loop-moves.moves c.loop-moves.pops c.turn-turn.result.moves c.turn-turn.result.pops c.outcome.result.moves c.outcome.result.pops c.args.self.now c.loop-moves.self c.turn-turn.new.self (sym c.outcome.ensures.1) (sym c.outcome.ensures.2) c.loop-moves.invariant.run c.turn-turn.ensures.run
