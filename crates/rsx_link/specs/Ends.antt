@@ -1,5 +1,5 @@
 -- What contracts see of a link's ends.
-use Rattle.std.specs.Prelude.{◌≡◌, ◌≢◌, ℕ, ◌+◌, ◌<◌, ◌≤◌, true, cond, nat_eq, List, [], ◌∷◌, ◌++◌, Option, Some, None}
+use Rattle.std.specs.Prelude.{◌≡◌, ◌≢◌, ◌⊎◌, ℕ, ◌+◌, ◌<◌, ◌≤◌, true, false, cond, nat_eq, List, [], ◌∷◌, ◌++◌, Option, Some, None}
 use mathlib.Core.List.{IsPrefix}
 use Rattle.atomic_table.specs.declared.shared.Seat.{Seat}
 use Rattle.atomic_table.specs.Table.{step}
@@ -151,6 +151,11 @@ module _ {T : Type 0} where
   abbrev pub Waits : Down T → List (Signal T) → Type 0
   Waits d [] = Unit {0}
   Waits d (s ∷ ss) = (is_item s ≡ true) × (items_taken d ≡ asked_total d)
+
+  -- no signal is there, or the oldest is an ending, or as many items were taken as asked for
+  abbrev pub OffersNone : Down T → List (Signal T) → Type 0
+  OffersNone d [] = Unit {0}
+  OffersNone d (s ∷ ss) = (is_item s ≡ false) ⊎ (items_taken d ≡ asked_total d)
 
   pub record TakesNone (old new : Down T) : Type 0 where
     pub received : received_signals new ≡ received_signals old

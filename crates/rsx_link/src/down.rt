@@ -6,6 +6,7 @@ ghost use Rattle.rsx_link.specs.Link.{view_cancels};
 ghost use Rattle.rsx_link.specs.Steps.{asked_of};
 ghost use Rattle.rsx_link.specs.Signals.{items_in, request_of};
 ghost use Rattle.rsx_link.specs.declared.view.Role.TheVariants.{Downstream};
+ghost use Rattle.rsx_types.specs.declared.signal.Signal.TheVariants.{Next};
 
 use crate::link::{Link, Seat};
 use crate::signals::{is_item, positive};
@@ -33,7 +34,7 @@ pub struct Down<T> {
 impl<T> Down<T> {
     ghost use Rattle.std.specs.Prelude.{◌≤◌, ◌∷◌, length, IfSome, IfNone, IsTrue, ◌↔◌};
     ghost use mathlib.Core.List.{IsPrefix};
-    ghost use Rattle.rsx_link.specs.Ends.{IsDownOf, SameDown, HasLooked, carried_down, down_steps, asked_total, items_taken, received_signals, queued, TakesOne, TakesNone, Requests};
+    ghost use Rattle.rsx_link.specs.Ends.{IsDownOf, OffersNone, SameDown, HasLooked, carried_down, down_steps, asked_total, items_taken, received_signals, queued, TakesOne, TakesNone, Requests};
 
     /// The items asked for, with those from before the link was made: at most 2^63 - 1.
     pub fn asked(&self) -> u64
@@ -92,6 +93,33 @@ impl<T> Down<T> {
             self.demand.spend();
         }
         Some(signal)
+    }
+
+    /// Takes the oldest signal of those that [`Down::is_empty`] or [`Down::take`] has seen in the queue, where it is an item and fewer were
+    /// taken than asked for (rule 1.1). It doesn't look whether more have come.
+    #[inline]
+    pub fn take_seen(&mut self, link: &Link<T>) -> Option<T>
+        requires { IsDownOf link.now self.old }
+        ensures same { IsDownOf link.now self.new × (down_steps self.new ≡ down_steps self.old) × (carried_down self.new ≡ carried_down self.old) }
+        ensures some { IfSome result (λ x. TakesOne self.old self.new (Next x)) }
+        ensures none { IfNone result ((self.new ≡ self.old) × OffersNone self.old (queued self.old)) }
+    {
+        let _ = link;
+        if self.consumer.cached_slots() == 0 {
+            return None;
+        }
+        if self.demand.room() == 0 || !is_item(self.consumer.peek_known()) {
+            return None;
+        }
+        match self.consumer.pop_known() {
+            Signal::Next(item) => {
+                self.demand.spend();
+                Some(item)
+            }
+            // It was seen to be an item.
+            Signal::Complete => None,
+            Signal::Error(_) => None,
+        }
     }
 
     /// Asks for `n` more items (rule 3.8), by one store of the new total, which saturates at 2^63 - 1 (rule 3.17).

@@ -21,7 +21,8 @@
 //! it can send before it looks. What stood in the edge's queue is sent into the link after it is made.
 //!
 //! Who has to know beforehand what a call would do asks [`Up::has_room`], after which a send succeeds, or
-//! [`Down::is_empty`], after which [`Down::front`] shows what [`Down::take`] would give.
+//! [`Down::is_empty`], after which [`Down::front`] shows what [`Down::take`] would give, and [`Down::take_seen`] takes
+//! items without another look.
 //!
 //! # The total, and why it is a store
 //!

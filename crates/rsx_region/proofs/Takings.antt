@@ -1,12 +1,12 @@
 -- Items that are taken from a link, one after the other.
 use Rattle.std.proofs.Common.{◌≡◌, ℕ, suc, ◌+◌, ◌<◌, ◌≤◌, Bool, true, false, if◌then◌else◌, List, [], ◌∷◌, ◌++◌, append_assoc, length, reverse, refl, sym, ap, ◌∙◌, subst, arith}
-use Rattle.std.proofs.lemmas.List.{append-nil, reverse-append}
+use Rattle.std.proofs.lemmas.List.{append-nil, length-append}
 use mathlib.Core.List.{IsPrefix}
 use Rattle.rsx_sources.specs.Prelude.{Complete, Error, Next, Signal}
 use Rattle.rsx_sources.specs.declared.machine.Machine.{Ghosts as Machine}
 use Rattle.rsx_tree.specs.Edges.{is_live}
 use Rattle.rsx_tree.specs.Runs.{Leads}
-use Rattle.rsx_tree.proofs.Runs.{leads_keep}
+use Rattle.rsx_tree.proofs.Runs.{leads_keep, leads_on}
 use Rattle.rsx_rooted.proofs.TakenOff.{at_within, in_within}
 use Rattle.rsx_rooted.specs.Taking.{AreTakenOff, blocks, spaces_at}
 use Rattle.rsx_rooted.specs.Taking as Tree
@@ -21,7 +21,7 @@ use Rattle.rsx_link.specs.declared.link.Link.{Link}
 use Rattle.rsx_region.specs.Endings.{first_ending}
 use Rattle.rsx_region.specs.Moves.{ArePopped}
 use Rattle.rsx_region.specs.declared.inlet.Inlet.{Inlet}
-use Rattle.rsx_region.specs.Taken.{AreTaken, IsItemTaken, IsLookedAt}
+use Rattle.rsx_region.specs.Taken.{AreTaken, AreTakenInTurn, IsItemTaken, IsLookedAt}
 
 prefix_then : {A : Type 0} (xs ys zs : List A) → IsPrefix xs ys → IsPrefix ys zs → IsPrefix xs zs
 prefix_then {A} xs ys zs h k = (h.0 ++ k.0, sym (append_assoc xs h.0 k.0) ∙ (ap (λ (l : List A). l ++ k.0) h.1 ∙ k.1))
@@ -31,9 +31,6 @@ none_taken old new before h = record { items = []; count = refl; put = sym (appe
 
 pub looked_at : {T : Type 0} (l : Link T) (old new : Down T) → HasLooked l old new → IsLookedAt old new
 looked_at l old new h = record { received = h.2; steps = h.1; carried = h.4 }
-
-pub looked_then : {T : Type 0} (old mid new : Down T) → IsLookedAt old mid → IsLookedAt mid new → IsLookedAt old new
-looked_then old mid new h k = record { received = k.received ∙ h.received; steps = k.steps ∙ h.steps; carried = k.carried ∙ h.carried }
 
 -- a look before it changes nothing
 taken_behind : {T : Type 0} (l : Link T) (old mid new : Down T) (x : T) → HasLooked l old mid → TakesOne mid new (Next x) → down_steps new ≡ down_steps mid → carried_down new ≡ carried_down mid → IsItemTaken old x new
@@ -50,20 +47,39 @@ taken_behind {T} l old mid new x h k steps carried =
       carried = carried ∙ h.4;
     }
 
--- an item, and then some more
-pub more_taken : {T : Type 0} (l : Link T) (n : ℕ) (old mid took new : Down T) (x : T) (before after pushed : List T) → HasLooked l old mid → TakesOne mid took (Next x) → down_steps took ≡ down_steps mid → carried_down took ≡ carried_down mid →
-    AreTaken n took before after new → pushed ≡ after ++ x ∷ [] → AreTaken (n + 1) old before pushed new
-more_taken {T} l n old mid took new x before after pushed looked took_one steps carried k push = record {
-  items = x ∷ k.items;
-  count = (let c = k.count in one (length k.items) n c);
-  put = push ∙ (ap (λ (xs : List T). xs ++ x ∷ []) k.put ∙ (append_assoc before (reverse k.items) (x ∷ []) ∙ ap (λ (xs : List T). before ++ xs) (sym (reverse-append (x ∷ []) k.items))));
-  last = k.last;
-  run = (took, taken_behind l old mid took x looked took_one steps carried, k.run);
-  rest = k.rest;
+-- items that were taken after a look
+from_look : {T : Type 0} (l : Link T) (old mid new : Down T) (xs : List T) → HasLooked l old mid → Leads IsItemTaken mid xs new → (last : Down T) × Leads IsItemTaken old xs last × IsLookedAt last new
+from_look {T} l old mid new [] h run = (old, refl, (let L : Down T → Type 0 = λ d. IsLookedAt old d in subst L (sym run) (looked_at l old mid h)))
+from_look l old mid new (x ∷ xs) h run = (new, (run.0, taken_behind l old mid run.0 x h run.1.taken run.1.steps run.1.carried, run.2), record { received = refl; steps = refl; carried = refl })
+
+pub taken_turned : {T : Type 0} (l : Link T) (n : ℕ) (old mid new : Down T) (before after turned : List T) → HasLooked l old mid → before ≡ [] → AreTakenInTurn n mid before after new → turned ≡ reverse after → AreTaken n old [] turned new
+taken_turned {T} l n old mid new before after turned looked none k is =
+    let r = from_look l old mid new k.items looked k.run in
+    record {
+      items = k.items;
+      count = k.count;
+      put = is ∙ ap reverse (k.put ∙ ap (λ (xs : List T). xs ++ k.items) none);
+      last = r.0;
+      run = r.1;
+      rest = r.2;
+    }
+
+-- what a run of them keeps
+pub taken_keeps : {T : Type 0} (n : ℕ) (old new : Down T) (before after : List T) → AreTakenInTurn n old before after new → (down_steps new ≡ down_steps old) × (carried_down new ≡ carried_down old)
+taken_keeps {T} n old new before after k =
+    leads_keep IsItemTaken (λ (d : Down T). (down_steps d ≡ down_steps old) × (carried_down d ≡ carried_down old)) (λ a b x s h. (s.steps ∙ h.0, s.carried ∙ h.1)) old new k.items k.run (refl, refl)
+
+-- one by one
+pub turn_none : {T : Type 0} (d : Down T) (before : List T) → AreTakenInTurn 0 d before before d
+turn_none d before = record { items = []; count = refl; put = sym (append-nil before); run = refl }
+
+pub turn_more : {T : Type 0} (n : ℕ) (old mid new : Down T) (x : T) (before between after : List T) → AreTakenInTurn n old before between mid → TakesOne mid new (Next x) → down_steps new ≡ down_steps mid → carried_down new ≡ carried_down mid → after ≡ between ++ x ∷ [] → AreTakenInTurn (n + 1) old before after new
+turn_more {T} n old mid new x before between after k taken steps carried push = record {
+  items = k.items ++ x ∷ [];
+  count = length-append k.items (x ∷ []) ∙ ap (λ (i : ℕ). i + 1) k.count;
+  put = push ∙ (ap (λ (xs : List T). xs ++ x ∷ []) k.put ∙ append_assoc before k.items (x ∷ []));
+  run = leads_on IsItemTaken old mid new k.items (x ∷ []) k.run (new, record { taken = taken; steps = steps; carried = carried }, refl);
 }
-  where
-    one : (k n : ℕ) → k ≡ n → suc k ≡ n + 1
-    one k n e = omega (arith, e)
 
 -- ---- no ending among them
 

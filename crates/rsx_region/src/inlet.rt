@@ -2,9 +2,9 @@
 
 ghost use Rattle.std.specs.Prelude.{◌≡◌, ◌+◌, ◌<◌, ◌≤◌, ◌∷◌, ◌++◌, [], List, true};
 ghost use Rattle.std.specs.Vec.{vec_len, vec_capacity};
-ghost use Rattle.rsx_link.specs.Ends.{HasLooked, IsDownOf, cancels_of, carried_down, down_steps, received_signals};
+ghost use Rattle.rsx_link.specs.Ends.{IsDownOf, cancels_of, carried_down, down_steps, received_signals};
 ghost use Rattle.rsx_region.specs.Endings.{first_ending};
-ghost use Rattle.rsx_region.specs.Taken.{AreTaken, OffersItem};
+ghost use Rattle.rsx_region.specs.Taken.{AreTaken, AreTakenInTurn};
 ghost use Rattle.rsx_types.specs.declared.signal.Signal.{Signal as SignalSpec};
 
 use crate::halves::READER_PLACES;
@@ -64,46 +64,39 @@ fn count_ending<T>(ended: &mut Option<Ending>, signal: &Signal<T>)
     }
 }
 
-/// Whether the oldest signal of the link is an item. It stays there.
-fn offers_item<T>(down: &mut Down<T>, link: &Link<T>) -> bool
-    requires { IsDownOf link.now down.old }
-    ensures same { HasLooked link.now down.old down.new }
-    ensures item { result ≡ true → OffersItem down.new }
+/// Takes items from the link, at most `most`, as long as some that the end knows can be taken, and puts them behind those in the list. It
+/// has room for them. Answers how many.
+fn take_each<T: Drop>(down: &mut Down<T>, link: &Link<T>, most: u64, items: &mut Vec<T>) -> u64
+    requires end { IsDownOf link.now down.old }
+    requires room { vec_len items.old + most ≤ vec_capacity items.old }
+    ensures end { IsDownOf link.now down.new }
+    ensures taken { AreTakenInTurn result down.old items.old.items items.new.items down.new }
+    ensures most { result ≤ most }
 {
-    if down.is_empty(link) {
-        return false;
+    for count in 0..most {
+        match down.take_seen(link) {
+            Some(item) => items.push_reserved(item),
+            None => return count,
+        }
     }
-    match down.front() {
-        Some(Signal::Next(_)) => true,
-        Some(Signal::Complete) => false,
-        Some(Signal::Error(_)) => false,
-        None => false,
-    }
+    most
 }
 
-/// Takes items from the link, at most `most`, as long as some can be taken, and puts them at the end of the list, the first of them last.
-/// It has room for them. Answers how many. It calls itself so many times deep.
+/// The same after a look for more, into an empty list, with the first item last.
 fn take_items<T: Drop>(down: &mut Down<T>, link: &Link<T>, most: u64, items: &mut Vec<T>) -> u64
     requires end { IsDownOf link.now down.old }
     requires room { vec_len items.old + most ≤ vec_capacity items.old }
+    requires empty { items.old.items ≡ [] }
     ensures end { IsDownOf link.now down.new × (down_steps down.new ≡ down_steps down.old) × (carried_down down.new ≡ carried_down down.old) }
-    ensures taken { AreTaken result down.old items.old.items items.new.items down.new }
+    ensures taken { AreTaken result down.old [] items.new.items down.new }
     ensures most { result ≤ most }
-    ensures room { vec_capacity items.new ≡ vec_capacity items.old }
 {
-    if most == 0 || !offers_item(down, link) {
+    if down.is_empty(link) {
         return 0;
     }
-    match down.take(link) {
-        Some(Signal::Next(item)) => {
-            let behind = take_items(down, link, most - 1, items);
-            items.push_reserved(item);
-            behind + 1
-        }
-        Some(Signal::Complete) => 0,
-        Some(Signal::Error(_)) => 0,
-        None => 0,
-    }
+    let count = take_each(down, link, most, items);
+    items.reverse();
+    count
 }
 
 impl<T: Drop> Inlet<T> {
