@@ -41,7 +41,8 @@ impl<N: Nodes<Item = T> + Batches, T: Drop> Piece<N, T> {
     /// Does what there is to do for the piece, until nothing is left or the budget is used up. It looks at the link that goes out,
     /// passes requests and cancels down the links that come in, takes from each the signals that its reader has room for, and makes
     /// the moves that are enabled; and so on, from the start. After a move that a search found it pulls items through the piece, many at
-    /// once or one after the other, as long as some come. A signal that is taken from a link counts as a move does, so that what one call does is bounded.
+    /// once or one after the other, as long as some come. A signal that is taken from a link counts as a move does, so that what one call
+    /// does is bounded.
     ///
     /// Where it answers [`Answer::Idle`], the link that goes out was looked at, and all requests were passed on. After
     /// [`Answer::Budget`] call it again. After [`Answer::NoMemory`] what was done before stands, and it may be called again, too. Of a
