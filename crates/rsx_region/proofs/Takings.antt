@@ -69,10 +69,7 @@ pub taken_keeps : {T : Type 0} (n : ℕ) (old new : Down T) (before after : List
 taken_keeps {T} n old new before after k =
     leads_keep IsItemTaken (λ (d : Down T). (down_steps d ≡ down_steps old) × (carried_down d ≡ carried_down old)) (λ a b x s h. (s.steps ∙ h.0, s.carried ∙ h.1)) old new k.items k.run (refl, refl)
 
--- one by one
-pub turn_none : {T : Type 0} (d : Down T) (before : List T) → AreTakenInTurn 0 d before before d
-turn_none d before = record { items = []; count = refl; put = sym (append-nil before); run = refl }
-
+-- one more
 pub turn_more : {T : Type 0} (n : ℕ) (old mid new : Down T) (x : T) (before between after : List T) → AreTakenInTurn n old before between mid → TakesOne mid new (Next x) → down_steps new ≡ down_steps mid → carried_down new ≡ carried_down mid → after ≡ between ++ x ∷ [] → AreTakenInTurn (n + 1) old before after new
 turn_more {T} n old mid new x before between after k taken steps carried push = record {
   items = k.items ++ x ∷ [];
